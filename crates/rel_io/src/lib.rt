@@ -1,0 +1,18 @@
+//! What every layer stands on: bytes as texts are kept, lists and boxes that contracts see as what they
+//! hold, copies that say when memory ran out, and the outside world as two traits: a folder of files
+//! and a sink. The layers above are proved against the meaning of these traits and know no other outside.
+#![tactic(auto)]
+
+mod boxed;
+mod bytes;
+mod dup;
+mod iri;
+mod items;
+mod memory;
+
+pub use boxed::Boxed;
+pub use bytes::Bytes;
+pub use dup::Dup;
+pub use iri::Iri;
+pub use items::Items;
+pub use memory::NoMemory;
