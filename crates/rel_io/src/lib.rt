@@ -6,13 +6,21 @@
 mod boxed;
 mod bytes;
 mod dup;
+mod folder;
 mod iri;
 mod items;
+mod mem_folder;
+mod mem_sink;
 mod memory;
+mod sink;
 
 pub use boxed::Boxed;
 pub use bytes::Bytes;
 pub use dup::Dup;
+pub use folder::{Folder, Got, Opened, PutFault};
 pub use iri::Iri;
 pub use items::Items;
+pub use mem_folder::MemFolder;
+pub use mem_sink::MemSink;
 pub use memory::NoMemory;
+pub use sink::{Sink, SinkFailed};
