@@ -1,9 +1,9 @@
 -- What the three calls of a folder do, one record for each answer. (Own.)
-use Rattle.std.specs.Prelude.{◌≡◌, ◌≢◌, ℕ, ◌+◌, ◌≤◌, List, length, take, drop, true, false, IsTrue, IfSome, Option, Some, None, IsSome, IsNone, MatchOption, Result, Ok, Err, ⊤}
+use Rattle.std.specs.Prelude.{◌≡◌, ◌≢◌, ℕ, ◌+◌, ◌≤◌, List, length, take, drop, false, IsTrue, IfSome, Option, Some, None, IsSome, IsNone, MatchOption, Result, Ok, Err, ⊤}
 use Rattle.std.specs.FinMap.{get, insert}
 use Rattle.std.specs.Option.{option_map}
 use Rattle.rel_io.specs.Count.{Rose}
-use Rattle.rel_io.specs.FolderState.{Files, FolderState, Position}
+use Rattle.rel_io.specs.FolderState.{Files, FolderState}
 use Rattle.rel_io.specs.declared.folder.Opened.{Opened}
 use Rattle.rel_io.specs.declared.folder.Opened.TheVariants.{Ready, Missing, Failed}
 use Rattle.rel_io.specs.declared.folder.Got.{Got}

@@ -1,5 +1,5 @@
 -- What a folder is, as far as contracts speak of it. (Own.)
-use Rattle.std.specs.Prelude.{◌≡◌, ℕ, Bool, List, ◌≤◌, Option}
+use Rattle.std.specs.Prelude.{ℕ, Bool, List, ◌≤◌, Option}
 use Rattle.std.specs.Ordering.{nat_cmp}
 use Rattle.std.specs.Cmp.Lexicographic.{slice_cmp}
 use Rattle.std.specs.FinMap.{FinMap}

@@ -1,5 +1,5 @@
 -- A folder in memory, exactly: which call fails, how much a read gives, and what is held after each call. (Own.)
-use Rattle.std.specs.Prelude.{◌≡◌, ℕ, ◌+◌, ◌*◌, ◌<◌, ◌≤◌, ◌==◌, Bool, List, [], ◌++◌, ◌∷◌, nat_eq, length, take, drop, min, is_some, unwrap_or, if◌then◌else◌, slice_index_or, slice_set, Option, Some, None, refl}
+use Rattle.std.specs.Prelude.{◌≡◌, ℕ, ◌+◌, ◌<◌, ◌≤◌, ◌==◌, Bool, List, [], ◌++◌, ◌∷◌, nat_eq, length, take, drop, min, is_some, unwrap_or, if◌then◌else◌, slice_index_or, slice_set, Option, Some, None, refl}
 use Rattle.std.specs.Cmp.Lexicographic.{pointwise, slice_cmp}
 use Rattle.std.specs.Coded.{Coded, code_by, coded×, coded_list, coded_option, coded_ℕ}
 use Rattle.std.specs.FinMap.{contains_key, get, insert}

@@ -1,5 +1,5 @@
 -- A sink in memory, exactly: which write fails, and what is written after each. (Own.)
-use Rattle.std.specs.Prelude.{ℕ, ◌+◌, ◌<◌, ◌||◌, Bool, List, ◌++◌, nat_eq, nat_lt, length, if◌then◌else◌, Some, Result, Ok, Err, ⊤}
+use Rattle.std.specs.Prelude.{ℕ, ◌+◌, ◌||◌, Bool, List, ◌++◌, nat_eq, nat_lt, length, if◌then◌else◌, Some}
 use Rattle.std.specs.List.{list_any}
 use Rattle.rel_io.specs.Count.{count_after}
 use Rattle.rel_io.specs.Sink.{SinkState}

@@ -1,5 +1,5 @@
 -- What a sink is, and what writing to it does. (Own.)
-use Rattle.std.specs.Prelude.{◌≡◌, ℕ, ◌≤◌, List, ◌++◌, take, Option, Result, Ok, Err, ⊤}
+use Rattle.std.specs.Prelude.{◌≡◌, ℕ, List, ◌++◌, take, Option, Result, Ok, Err, ⊤}
 use Rattle.std.specs.Option.{option_map}
 use Rattle.rel_io.specs.Count.{Rose}
 use Rattle.rel_io.specs.declared.sink.SinkFailed.{SinkFailed}

@@ -1,4 +1,4 @@
-use Rattle.std.proofs.Common.{◌≡◌, IsTrue, false}
+use Rattle.std.proofs.Common.{◌≡◌, false}
 use Rattle.rel_io.specs.MemFolder.{fails}
 use Rattle.rel_io.proofs.mem_folder.MemFolderFolder.put.Goals as goal
 

@@ -1,6 +1,5 @@
-use Rattle.std.proofs.Common.{◌≡◌, ◌==◌, ◌<◌, ◌≤◌, ℕ, [], Some, None, slice_index_or, length, false, true, refl, sym, ◌∙◌, eq-eqb, arith}
+use Rattle.std.proofs.Common.{◌≡◌, ◌==◌, ℕ, [], slice_index_or, length, false, true, refl, eq-eqb, arith}
 use Rattle.std.proofs.lemmas.Grind.{common_steps}
-use Rattle.std.specs.FinMap.{get, from_entries}
 use Rattle.std.specs.Option.{unwrap_or}
 use Rattle.rel_io.specs.FolderState.{Position}
 use Rattle.rel_io.specs.MemFolder.{MemFolderState, fails, next_count, read_answer, IsOpenAt}

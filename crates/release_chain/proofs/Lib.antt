@@ -1,0 +1,5 @@
+pub mod ChainLemmas
+pub mod HeaderLemmas
+pub mod LineLemmas
+pub mod ReadLemmas
+pub mod WordLemmas

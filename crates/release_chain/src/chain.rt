@@ -1,0 +1,51 @@
+//! The chain: the words, the input, its lines, and the output.
+ghost use Rattle.std.specs.Prelude.{◌≡◌, map};
+ghost use Rattle.std.specs.String.{string_bytes};
+ghost use Rattle.rel_io.specs.FolderState.{NoCountFell};
+ghost use Rattle.release_chain.specs.Ending.{Ends, fault_of_input};
+
+use crate::header::{header_text, read_header};
+use crate::words::read_words;
+use crate::{Fault, FileFault, read_file};
+use rel_io::{Bytes, Dup, Folder, PutFault};
+use std::alloc::Global;
+
+/// The most bytes that the files of a chain have together.
+const BYTE_LIMIT: u64 = 268435456;
+
+/// Runs the chain of these words in a folder.
+pub fn run_chain<F: Folder>(alloc: Global, words: &[String], folder: &mut F) -> Result<(), Fault>
+    ensures { Ends (map string_bytes words.now) (F.state folder.old) result (F.state folder.new) }
+{
+    let paths = read_words(alloc, words)?;
+    let name = paths.input.copy(alloc)?;
+    let bytes = match read_file(alloc, folder, &paths.input, BYTE_LIMIT) {
+        Ok(bytes) => bytes,
+        Err(fault) => return Err(input_fault(fault, name)),
+    };
+    let text = match read_header(bytes.as_slice()) {
+        Ok(ontology) => header_text(alloc, ontology)?,
+        Err(line) => return Err(Fault::LineNotBuilt { file: name, line }),
+    };
+    let output = paths.output.copy(alloc)?;
+    match folder.put(paths.output.as_slice(), text.as_slice()) {
+        Ok(()) => Ok(()),
+        Err(PutFault::Failed) => Err(Fault::WriteFault { name: output }),
+        Err(PutFault::NoMemory) => Err(Fault::NoMemory),
+    }
+}
+
+/// The fault of a chain whose input was not read.
+fn input_fault(fault: FileFault, name: Bytes) -> Fault
+    ensures { result ≡ fault_of_input name fault }
+{
+    match fault {
+        FileFault::Missing => Fault::MissingInput { name },
+        FileFault::ReadFault => Fault::ReadFault { name },
+        FileFault::TooManyBytes => Fault::TooManyBytes {
+            name,
+            limit: BYTE_LIMIT,
+        },
+        FileFault::NoMemory => Fault::NoMemory,
+    }
+}

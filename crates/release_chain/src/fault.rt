@@ -1,0 +1,146 @@
+//! The faults that end a chain, and the status with which the program ends.
+ghost use Rattle.std.specs.Prelude.{◌≡◌, Some};
+ghost use Rattle.release_chain.specs.Fault.{status_of};
+ghost use Rattle.release_chain.specs.declared.fault.Fault.TheVariants.{NoMemory};
+
+use rel_io::{Bytes, Dup};
+use std::alloc::{AllocError, AllocFailed, Global};
+
+/// Why a word of the command line is refused.
+#[derive(Clone, Copy, Debug, PartialEq, Eq)]
+pub enum WordKind {
+    /// The name of an output does not end in `.obo`, so it has no format.
+    NoFormat,
+    /// The words end where one is wanted.
+    NoValue,
+    /// The value of an option is an empty name.
+    BadValue,
+    /// The word is not one that may stand here.
+    UnknownWord,
+    /// The name of an output is that of an input.
+    OutputIsInput,
+}
+
+/// What ended a chain before its end.
+#[derive(Debug, Drop)]
+pub enum Fault {
+    /// The first word that departs from the form of a chain: its index, from 0 behind the program's name.
+    BadWord { index: u32, kind: WordKind },
+    /// The input is not there.
+    MissingInput { name: Bytes },
+    /// The input has more bytes than the limit.
+    TooManyBytes { name: Bytes, limit: u64 },
+    /// The least line of a file, from 1, whose form is not built yet.
+    LineNotBuilt { file: Bytes, line: u32 },
+    /// The file could not be opened or read.
+    ReadFault { name: Bytes },
+    /// The file could not be written; nothing is known of it.
+    WriteFault { name: Bytes },
+    /// Memory ran out.
+    NoMemory,
+}
+
+/// How the program ended: its status, and its fault where the status is not 0.
+#[derive(Debug, Drop)]
+pub struct Ended {
+    /// The status of the process: 0 for success, 1 for a refused file, 2 for refused words, 3 for a failed
+    /// read or write, 4 for want of memory.
+    pub status: u8,
+    /// What ended the chain, and None exactly where the status is 0.
+    pub fault: Option<Fault>,
+}
+
+impl From<rel_io::NoMemory> for Fault {
+    ghost from_gives = { λ _ fault. fault ≡ NoMemory };
+
+    fn from(_: rel_io::NoMemory) -> Fault {
+        Fault::NoMemory
+    }
+}
+
+impl From<AllocError> for Fault {
+    ghost from_gives = { λ _ fault. fault ≡ NoMemory };
+
+    fn from(_: AllocError) -> Fault {
+        Fault::NoMemory
+    }
+}
+
+impl<T: Drop> From<AllocFailed<T>> for Fault {
+    ghost from_gives = { λ _ fault. fault ≡ NoMemory };
+
+    fn from(_: AllocFailed<T>) -> Fault {
+        Fault::NoMemory
+    }
+}
+
+impl Dup for WordKind {
+    fn copy(&self, _alloc: Global) -> Result<WordKind, rel_io::NoMemory> {
+        Ok(*self)
+    }
+}
+
+impl Dup for Fault {
+    fn copy(&self, alloc: Global) -> Result<Fault, rel_io::NoMemory> {
+        match self {
+            Fault::BadWord { index, kind } => Ok(Fault::BadWord {
+                index: *index,
+                kind: *kind,
+            }),
+            Fault::MissingInput { name } => Ok(Fault::MissingInput {
+                name: name.copy(alloc)?,
+            }),
+            Fault::TooManyBytes { name, limit } => Ok(Fault::TooManyBytes {
+                name: name.copy(alloc)?,
+                limit: *limit,
+            }),
+            Fault::LineNotBuilt { file, line } => Ok(Fault::LineNotBuilt {
+                file: file.copy(alloc)?,
+                line: *line,
+            }),
+            Fault::ReadFault { name } => Ok(Fault::ReadFault {
+                name: name.copy(alloc)?,
+            }),
+            Fault::WriteFault { name } => Ok(Fault::WriteFault {
+                name: name.copy(alloc)?,
+            }),
+            Fault::NoMemory => Ok(Fault::NoMemory),
+        }
+    }
+}
+
+impl Dup for Ended {
+    fn copy(&self, alloc: Global) -> Result<Ended, rel_io::NoMemory> {
+        let fault = self.fault.copy(alloc)?;
+        Ok(Ended {
+            status: self.status,
+            fault,
+        })
+    }
+}
+
+impl Ended {
+    /// The ending with this fault, or with none.
+    pub(crate) fn with(fault: Option<Fault>) -> Ended
+        ensures fault { result.fault ≡ fault }
+        ensures status { result.status ≡ status_of fault }
+    {
+        let status = match &fault {
+            None => 0,
+            Some(fault) => status(fault),
+        };
+        Ended { status, fault }
+    }
+}
+
+/// The status of a fault.
+fn status(fault: &Fault) -> u8
+    ensures { result ≡ status_of (Some fault.now) }
+{
+    match fault {
+        Fault::BadWord { .. } => 2,
+        Fault::MissingInput { .. } | Fault::TooManyBytes { .. } | Fault::LineNotBuilt { .. } => 1,
+        Fault::ReadFault { .. } | Fault::WriteFault { .. } => 3,
+        Fault::NoMemory => 4,
+    }
+}

@@ -1,0 +1,132 @@
+//! The words of the command line: the names of input and output, or the first word that departs from
+//! `merge --input A convert --output B`.
+ghost use Rattle.std.specs.Prelude.{◌≡◌, ◌⊎◌, ◌∷◌, [], MatchResult, Some, None, Ok, Err, List, map, IsOk, slice_get};
+ghost use Rattle.std.specs.Option.{option_copied};
+ghost use Rattle.std.specs.String.{string_bytes};
+ghost use Rattle.release_chain.specs.Words.{Fixed, Input, Output, Place, chain, first_misfit, input_of, misfit_at, output_of};
+ghost use Rattle.release_chain.specs.declared.fault.Fault.TheVariants.{NoMemory};
+
+use crate::{Fault, WordKind};
+use rel_io::Bytes;
+use std::alloc::Global;
+
+/// The names of the files of a chain.
+#[derive(Debug, Drop)]
+pub struct Paths {
+    pub input: Bytes,
+    pub output: Bytes,
+}
+
+/// The names of input and output, or the first bad word.
+pub fn read_words(alloc: Global, words: &[String]) -> Result<Paths, Fault>
+    ensures { MatchResult result
+        (λ paths. chain (map string_bytes words.now) ≡ Ok paths)
+        (λ fault. (chain (map string_bytes words.now) ≡ Err fault) ⊎ ((fault ≡ NoMemory) × IsOk (chain (map string_bytes words.now)))) }
+{
+    let (input, output) = find_paths(words)?;
+    let input = Bytes::from_vec(Vec::from_slice(alloc, input)?);
+    let output = Bytes::from_vec(Vec::from_slice(alloc, output)?);
+    Ok(Paths { input, output })
+}
+
+/// The words at the places of the two names, where all words fit.
+#[tactic(auto, unfolding(crate::specs::Words::chain))]
+fn find_paths(words: &[String]) -> Result<(&[u8], &[u8]), Fault>
+    ensures { MatchResult result
+        (λ found. chain (map string_bytes words.now) ≡ Ok (record { input = found.0.now; output = found.1.now }))
+        (λ fault. chain (map string_bytes words.now) ≡ Err fault) }
+{
+    expect_word(words, 0, "merge")?;
+    expect_word(words, 1, "--input")?;
+    let input = input_name(words)?;
+    expect_word(words, 3, "convert")?;
+    expect_word(words, 4, "--output")?;
+    let output = output_name(words, input)?;
+    expect_end(words)?;
+    Ok((input, output))
+}
+
+/// One word alone may stand at this place.
+#[tactic(auto, unfolding(crate::specs::Words::misfit_at))]
+fn expect_word(words: &[String], index: u32, text: &str) -> Result<(), Fault>
+    ensures { MatchResult result
+        (λ _. misfit_at (map string_bytes words.now) (Fixed text.now) index ≡ None)
+        (λ fault. (places : List Place) → first_misfit (map string_bytes words.now) (Fixed text.now ∷ places) index ≡ Some fault) }
+{
+    let Some(word) = word_at(words, index as usize) else {
+        return Err(bad_word(index, WordKind::NoValue));
+    };
+    if word != text.as_bytes() {
+        return Err(bad_word(index, WordKind::UnknownWord));
+    }
+    Ok(())
+}
+
+/// The name of the input, which is not empty.
+#[tactic(auto, unfolding(crate::specs::Words::misfit_at))]
+fn input_name(words: &[String]) -> Result<&[u8], Fault>
+    ensures { MatchResult result
+        (λ name. (misfit_at (map string_bytes words.now) Input 2 ≡ None) × (name.now ≡ input_of (map string_bytes words.now)))
+        (λ fault. (places : List Place) → first_misfit (map string_bytes words.now) (Input ∷ places) 2 ≡ Some fault) }
+{
+    let Some(name) = word_at(words, 2) else {
+        return Err(bad_word(2, WordKind::NoValue));
+    };
+    if name.is_empty() {
+        return Err(bad_word(2, WordKind::BadValue));
+    }
+    Ok(name)
+}
+
+/// The name of the output, which is not empty, ends in `.obo` and is not that of the input.
+#[tactic(auto, unfolding(crate::specs::Words::misfit_at))]
+fn output_name<'a>(words: &'a [String], input: &[u8]) -> Result<&'a [u8], Fault>
+    requires { input.now ≡ input_of (map string_bytes words.now) }
+    ensures { MatchResult result
+        (λ name. (misfit_at (map string_bytes words.now) Output 5 ≡ None) × (name.now ≡ output_of (map string_bytes words.now)))
+        (λ fault. (places : List Place) → first_misfit (map string_bytes words.now) (Output ∷ places) 5 ≡ Some fault) }
+{
+    let Some(name) = word_at(words, 5) else {
+        return Err(bad_word(5, WordKind::NoValue));
+    };
+    if name.is_empty() {
+        return Err(bad_word(5, WordKind::BadValue));
+    }
+    if !name.ends_with(b".obo") {
+        return Err(bad_word(5, WordKind::NoFormat));
+    }
+    if name == input {
+        return Err(bad_word(5, WordKind::OutputIsInput));
+    }
+    Ok(name)
+}
+
+/// No word may stand behind the name of the output.
+fn expect_end(words: &[String]) -> Result<(), Fault>
+    ensures { MatchResult result
+        (λ _. first_misfit (map string_bytes words.now) [] 6 ≡ None)
+        (λ fault. first_misfit (map string_bytes words.now) [] 6 ≡ Some fault) }
+{
+    if words.len() <= 6 {
+        Ok(())
+    } else {
+        Err(bad_word(6, WordKind::UnknownWord))
+    }
+}
+
+/// The bytes of the word at an index.
+fn word_at(words: &[String], index: usize) -> Option<&[u8]>
+    ensures { option_copied result ≡ slice_get (map string_bytes words.now) index }
+{
+    match words.get(index) {
+        Some(word) => Some(word.as_bytes()),
+        None => None,
+    }
+}
+
+/// A word is refused.
+fn bad_word(index: u32, kind: WordKind) -> Fault
+    ensures { result ≡ Fault.BadWord index kind }
+{
+    Fault::BadWord { index, kind }
+}
