@@ -1,0 +1,47 @@
+//! `robot`: the program. It takes the words of the command line, makes the real folder and the real
+//! sinks, calls `release`, and ends with its status.
+#![tactic(auto)]
+
+mod disk;
+mod standard;
+
+use disk::DiskFolder;
+use release_chain::release;
+use standard::StdSink;
+use std::alloc::Global;
+use std::env::{self, Env};
+use std::io::{self, ErrorKind};
+use std::process::ExitCode;
+
+/// The status of words that are refused.
+const BAD_WORDS: u8 = 2;
+
+/// The status of want of memory.
+const NO_MEMORY: u8 = 4;
+
+fn main(rt: HostRuntime) -> ExitCode {
+    match words(&rt) {
+        Ok(words) => {
+            let mut folder = DiskFolder::new(&rt);
+            let mut out = StdSink::output(&rt);
+            let mut err = StdSink::error(&rt);
+            let ended = release(rt.alloc(), &words, &mut folder, &mut out, &mut err);
+            ExitCode::from(ended.status)
+        }
+        Err(error) => ExitCode::from(status_without_words(error)),
+    }
+}
+
+/// The words behind the program's name.
+fn words<R: Env + AllocGlobal>(rt: &R) -> io::Result<Vec<String>> {
+    let words = env::args(rt)?.skip(1).collect(rt.alloc())?;
+    Ok(words)
+}
+
+/// How the program ends where it has no words: some word is no text, or memory ran out.
+fn status_without_words(error: io::Error) -> u8 {
+    match error.kind() {
+        ErrorKind::OutOfMemory => NO_MEMORY,
+        _ => BAD_WORDS,
+    }
+}
