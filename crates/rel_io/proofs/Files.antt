@@ -6,7 +6,7 @@ use Rattle.std.specs.FinMap.{FinMap, find, from_entries_push, get, get-from_entr
 use Rattle.std.specs.List.{position_from}
 use Rattle.std.specs.Ordering.{eq_by_cmp, nat_cmp}
 use Rattle.std.proofs.lemmas.Cmp.{nat_list_cmp_total, nat_list_eq_equiv}
-use Rattle.rel_io.specs.MemFolder.{IsAbsent, IsFoundAt, place_of}
+use Rattle.rel_io.specs.FileList.{FileList, IsAbsent, IsFoundAt, bytes_at, name_at, place_of}
 
 abbrev File : Type 0
 File = List ℕ × List ℕ
@@ -34,8 +34,8 @@ None-find name n (file ∷ files) e =
 -- the first file of the name stands at this place of the list
 record Found (name : List ℕ) (files : List File) (at : ℕ) : Type 0 where
   within : at < length files
-  named : (slice_index_or files at ([], [])).0 ≡ name
-  value : first_value name files ≡ Some (slice_index_or files at ([], [])).1
+  named : name_at files at ≡ name
+  value : first_value name files ≡ Some (bytes_at files at)
   written : (bytes other : List ℕ) → first_value other (slice_set files at (name, bytes)) ≡ cond (pointwise nat_eq other name) (Some bytes) (first_value other files)
 
 -- a test that is made twice
@@ -55,7 +55,7 @@ found_first name file files h = let same : name ≡ file.0 = same_text name file
   within = omega arith;
   named = sym same;
   value = rw (tied name file.0, h) refl;
-  written = λ bytes other. rw (tied other name, tied other file.0, ← same) (sym (twice (pointwise nat_eq other name) (Some bytes) (Some file.1) (first_value other files)))
+  written = λ bytes other. rw (tied other name, tied other file.0, ← same) (sym (twice (pointwise nat_eq other name) (Some bytes) (Some file.1) (first_value other files)));
 }
 
 -- a name is itself
@@ -70,9 +70,9 @@ found_later name file files at h found = record {
   value = rw (tied name file.0, h) found.value;
   written = λ bytes other. rw (tied other file.0, found.written bytes other)
       (either_order (pointwise nat_eq other file.0) (pointwise nat_eq other name) (Some file.1) (Some bytes) (first_value other files)
-        (λ a b. let p : other ≡ file.0 = same_text other file.0 (sym a) in let q : other ≡ name = same_text other name (sym b) in
-          let e : pointwise nat_eq name name ≡ false = (let r : name ≡ file.0 = sym q ∙ p in subst (λ o. pointwise nat_eq name o ≡ false) (sym r) h) in
-          let t : pointwise nat_eq name name ≡ true = itself name in cc))
+      (λ a b. let p : other ≡ file.0 = same_text other file.0 (sym a) in let q : other ≡ name = same_text other name (sym b) in
+      let e : pointwise nat_eq name name ≡ false = (let r : name ≡ file.0 = sym q ∙ p in subst (λ o. pointwise nat_eq name o ≡ false) (sym r) h) in
+      let t : pointwise nat_eq name name ≡ true = itself name in cc));
 }
 
 -- where a search that counts from n on finds the name
@@ -101,7 +101,7 @@ place_of-found files name at e =
       held = get-from_entries nat_list_cmp_total files name ∙ found.value;
       replaced = λ bytes. same_files (λ other.
           get-from_entries nat_list_cmp_total _ other ∙ found.written bytes other
-          ∙ sym (get-insert nat_list_cmp_total _ name bytes other ∙ rw (tied other name, get-from_entries nat_list_cmp_total files other) refl))
+          ∙ sym (get-insert nat_list_cmp_total _ name bytes other ∙ rw (tied other name, get-from_entries nat_list_cmp_total files other) refl));
     }
 
 -- what it says that none was found
@@ -110,5 +110,5 @@ place_of-absent files name e =
     let none : first_value name files ≡ None = None-find name 0 files e in
     record {
       not_held = get-from_entries nat_list_cmp_total files name ∙ none;
-      added = λ bytes. from_entries_push nat_list_cmp_total (slice_cmp-IsAntisymmetric nat_cmp-IsAntisymmetric) files name bytes none
+      added = λ bytes. from_entries_push nat_list_cmp_total (slice_cmp-IsAntisymmetric nat_cmp-IsAntisymmetric) files name bytes none;
     }

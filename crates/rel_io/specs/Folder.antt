@@ -49,7 +49,7 @@ pub record ReadsOn (before : FolderState) (count : ℕ) (read : List ℕ) (now :
 -- all bytes of the open file were read before; it stays open
 pub record ReadsEnd (before now : FolderState) : Type 0 where
   pub is_open : IsTrue now.is_open
-  pub at_end : IfSome (open_file_bytes before) (λ file. length file ≤ before.opened.place)
+  pub at_end : IfSome (open_file_bytes before) (λ file. before.opened.place ≡ length file)
   pub stays : IfSome before.holds (λ files. now.opened ≡ before.opened)
 
 -- what an answer to reading says

@@ -13,14 +13,18 @@ pub record Position : Type 0 where
   pub name : List ℕ
   pub place : ℕ
 
--- what a folder holds, where it tells that; how often a read, a write failed and a file was missing;
--- whether a file is open, and which, where the folder tells what it holds
 pub record FolderState : Type 0 where
+  -- the files, where the folder tells what it holds
   pub holds : Option Files
+  -- how often opening or reading failed
   pub read_faults : ℕ
+  -- how often writing failed
   pub write_faults : ℕ
+  -- how often there was no file of the name
   pub misses : ℕ
+  -- a file is open
   pub is_open : Bool
+  -- which, and how much of it was read, while one is open and the folder tells what it holds
   pub opened : Position
 
 -- no count has fallen

@@ -1,7 +1,9 @@
+pub mod Codes
 pub mod Count
-pub mod formers
+pub mod FileList
 pub mod Folder
 pub mod FolderState
 pub mod MemFolder
 pub mod MemSink
 pub mod Sink
+pub mod formers

@@ -4,13 +4,16 @@ use Rattle.std.specs.List.{list_any}
 use Rattle.rel_io.specs.Count.{count_after}
 use Rattle.rel_io.specs.Sink.{SinkState}
 
--- the bytes written; for how many there is room; the numbers of the writes that fail; how many writes there were;
--- and how many failed
 pub record MemSinkState : Type 0 where
+  -- the bytes written so far
   pub bytes : List ℕ
+  -- for how many bytes there is room
   pub room : ℕ
+  -- the numbers of the writes that fail
   pub failing : List ℕ
+  -- how many writes there were
   pub writes : ℕ
+  -- how many of them failed
   pub faults : ℕ
 
 -- as any sink: it tells what was written

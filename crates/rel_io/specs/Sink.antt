@@ -4,9 +4,10 @@ use Rattle.std.specs.Option.{option_map}
 use Rattle.rel_io.specs.Count.{Rose}
 use Rattle.rel_io.specs.declared.sink.SinkFailed.{SinkFailed}
 
--- the bytes that a sink took, where it tells them, and how often it failed
 pub record SinkState : Type 0 where
+  -- the bytes written so far, where the sink tells them
   pub written : Option (List ℕ)
+  -- how often writing failed
   pub faults : ℕ
 
 -- these bytes stand behind those that were written before

@@ -24,3 +24,6 @@ pub use mem_folder::MemFolder;
 pub use mem_sink::MemSink;
 pub use memory::NoMemory;
 pub use sink::{Sink, SinkFailed};
+
+#[cfg(test)]
+mod tests;

@@ -1,13 +1,12 @@
 //! A folder in memory, for tests of what stands above: it fails where it is told to.
-ghost use Rattle.std.specs.Prelude.{◌≡◌, ◌↔◌, ◌++◌, ◌<◌, ◌≤◌, IsTrue, IsErrOf, OnOk, OnErr, drop, false, length, min, nat_eq, slice_index_or, take, MatchOption, [], ◌∷◌};
-ghost use Rattle.std.specs.FinMap.{from_entries, get, insert};
+ghost use Rattle.std.specs.Prelude.{◌≡◌, ◌↔◌, ◌++◌, ◌<◌, ◌≤◌, IsTrue, IsErrOf, MatchOption, OnOk, OnErr, drop, false, length, min, nat_eq, take};
+ghost use Rattle.std.specs.FinMap.{get, insert};
 ghost use Rattle.std.specs.List.{list_any};
 ghost use Rattle.std.specs.Option.{option_copied};
-ghost use Rattle.std.specs.Ordering.{nat_cmp};
-ghost use Rattle.std.specs.Cmp.Lexicographic.{slice_cmp};
+ghost use Rattle.rel_io.specs.FileList.{IsAbsent, IsFoundAt, bytes_at, files_of, place_of};
 ghost use Rattle.rel_io.specs.Folder.{Opens, Puts, Reads};
-ghost use Rattle.rel_io.specs.FolderState.{NoCountFell, Position};
-ghost use Rattle.rel_io.specs.MemFolder.{after_denied_put, after_failed_put, after_open, after_put, after_read, fails, folder_of, IsAbsent, IsFoundAt, open_answer, place_of, read_answer, read_bytes, rest_at, next_count};
+ghost use Rattle.rel_io.specs.FolderState.{NoCountFell};
+ghost use Rattle.rel_io.specs.MemFolder.{after_failed_put, after_open, after_put, after_put_without_memory, after_read, fails, folder_of, open_answer, read_answer, read_bytes};
 
 use crate::{Bytes, Folder, Got, NoMemory, Opened, PutFault};
 use std::alloc::Global;
@@ -30,22 +29,23 @@ pub struct MemFolder {
 impl Model for MemFolder {
     ghost use Rattle.std.specs.Prelude.{◌≤◌};
     ghost use Rattle.std.specs.Option.{ForSome};
-    ghost use Rattle.std.specs.FinMap.{from_entries};
-    ghost use Rattle.rel_io.specs.MemFolder.{IsOpenAt, MemFolderState, mem_folder_code, position_at};
+    ghost use Rattle.rel_io.specs.Codes.{mem_folder_code};
+    ghost use Rattle.rel_io.specs.FileList.{IsOpenAt, files_of, position_at};
+    ghost use Rattle.rel_io.specs.MemFolder.{MemFolderState};
 
     ghost Value = { MemFolderState };
 
     ghost coded = { mem_folder_code };
 
     ghost view = { λ m. record {
-        files = from_entries m.files.items;
-        piece = m.piece;
-        failing = m.failing.items;
-        calls = m.calls;
-        read_faults = m.read_faults;
-        write_faults = m.write_faults;
-        misses = m.misses;
-        opened = position_at m.files.items m.opened
+      files = files_of m.files.items;
+      piece = m.piece;
+      failing = m.failing.items;
+      calls = m.calls;
+      read_faults = m.read_faults;
+      write_faults = m.write_faults;
+      misses = m.misses;
+      opened = position_at m.files.items m.opened;
     } };
 
     ghost invariant = { λ m. (1 ≤ m.piece) × ForSome m.opened (IsOpenAt m.files.items) };
@@ -64,14 +64,14 @@ impl MemFolder {
     ) -> MemFolder
         requires { 1 ≤ piece }
         ensures { result ≡ record {
-            files = from_entries files.items;
-            piece = piece;
-            failing = failing.items;
-            calls = 0;
-            read_faults = 0;
-            write_faults = 0;
-            misses = 0;
-            opened = None
+          files = files_of files.items;
+          piece = piece;
+          failing = failing.items;
+          calls = 0;
+          read_faults = 0;
+          write_faults = 0;
+          misses = 0;
+          opened = None;
         } }
     {
         MemFolder {
@@ -161,7 +161,7 @@ impl Folder for MemFolder {
         ensures fails { IsErrOf result PutFault.Failed ↔ IsTrue (fails self.old) }
         ensures done { OnOk result (self.new ≡ after_put self.old name.now bytes.now) }
         ensures failed { IsErrOf result PutFault.Failed → self.new ≡ after_failed_put self.old }
-        ensures denied { IsErrOf result PutFault.NoMemory → self.new ≡ after_denied_put self.old }
+        ensures denied { IsErrOf result PutFault.NoMemory → self.new ≡ after_put_without_memory self.old }
     {
         let failing = is_listed(&self.failing, self.calls);
         self.calls = self.calls.saturating_add(1);
@@ -199,7 +199,7 @@ fn place_of(files: &[(Bytes, Bytes)], name: &[u8]) -> Option<usize>
 /// The bytes of the file at a place.
 fn content(files: &[(Bytes, Bytes)], at: usize) -> &[u8]
     requires { at < length files.now }
-    ensures { result.now ≡ (slice_index_or files.now at ([], [])).1 }
+    ensures { result.now ≡ bytes_at files.now at }
 {
     files[at].1.as_slice()
 }
@@ -221,7 +221,7 @@ fn put_file(
     name: &[u8],
     bytes: &[u8],
 ) -> Result<(), NoMemory>
-    ensures ok { OnOk result (from_entries files.new.items ≡ insert (from_entries {R = slice_cmp nat_cmp} files.old.items) name.now bytes.now) }
+    ensures ok { OnOk result (files_of files.new.items ≡ insert (files_of files.old.items) name.now bytes.now) }
     ensures err { OnErr result (files.new.items ≡ files.old.items) }
 {
     let file = (

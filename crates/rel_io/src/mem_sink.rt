@@ -25,11 +25,11 @@ impl Model for MemSink {
     ghost Value = { MemSinkState };
 
     ghost view = { λ m. record {
-        bytes = m.bytes.items;
-        room = m.room;
-        failing = m.failing.items;
-        writes = m.writes;
-        faults = m.faults
+      bytes = m.bytes.items;
+      room = m.room;
+      failing = m.failing.items;
+      writes = m.writes;
+      faults = m.faults;
     } };
 
     ghost invariant = { λ m. (m.room ≤ vec_capacity m.bytes) × (vec_len m.bytes ≤ m.room) };
@@ -41,11 +41,11 @@ impl MemSink {
     /// or the bytes would outgrow the room.
     pub fn new(alloc: Global, room: usize, failing: Vec<u64>) -> Result<MemSink, NoMemory>
         ensures { IfOk result (λ sink. sink ≡ record {
-            bytes = [];
-            room = room;
-            failing = failing.items;
-            writes = 0;
-            faults = 0
+          bytes = [];
+          room = room;
+          failing = failing.items;
+          writes = 0;
+          faults = 0;
         }) }
     {
         let bytes = Vec::with_capacity(alloc, room)?;

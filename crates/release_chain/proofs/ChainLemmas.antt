@@ -1,75 +1,128 @@
--- Two endings of a chain: at bad words, and at a write that failed.
-use Rattle.std.proofs.Common.{◌≡◌, ◌⊎◌, ℕ, ◌+◌, ◌≤◌, List, [], ◌∷◌, Option, Some, None, Result, Ok, Err, IfSome, IsOk, true, false, if◌then◌else◌, inl, inr, length, nat_le, refl, sym, ap, subst, ◌∙◌, arith, le-leb}
+-- Two endings of a chain: where its input was not read, and where its output was not written.
+use Rattle.std.proofs.Common.{◌≡◌, ℕ, ◌≤◌, List, [], ◌∷◌, Option, Some, None, Ok, Err, IfSome, IsOk, true, false, if◌then◌else◌, length, nat_le, ◌<◌, refl, sym, ap, ◌∙◌, arith, le-leb}
+use Rattle.std.proofs.lemmas.Bool.{lt-leb}
 use Rattle.std.specs.FinMap.{get}
+use Rattle.std.specs.Option.{option_map}
 use Rattle.rel_io.proofs.Options.{at_some, if_some}
-use Rattle.rel_io.specs.Folder.{HoldsOthers, WriteFailed}
+use Rattle.rel_io.specs.Folder.{WriteFailed}
 use Rattle.rel_io.specs.FolderState.{Files, FolderState, NoCountFell}
-use Rattle.release_chain.specs.Ending.{Ends}
 use Rattle.release_chain.specs.Header.{header_text, ontology_name, unbuilt_line}
-use Rattle.release_chain.specs.Lines.{lines_of}
-use Rattle.release_chain.specs.Release.{WriteFaultCaused}
-use Rattle.release_chain.specs.Run.{Run, after_outputs, byte_limit, run, run_chain, run_file, refused}
-use Rattle.release_chain.specs.Words.{Place, Word, chain, first_misfit, form, input_of, misfit_at, output_of}
+use Rattle.release_chain.specs.Ending.{Ends, fault_of_input}
+use Rattle.release_chain.specs.Lines.{Line, lines_of}
+use Rattle.release_chain.specs.ReadFile.{ReadsFile}
+use Rattle.release_chain.specs.Release.{EndsAs, StoppedAtOutput, WriteFaultCaused}
+use Rattle.release_chain.specs.Run.{Run, after_outputs, byte_limit, refuses, run, run_chain, run_input, run_lines, writes}
+use Rattle.release_chain.specs.Words.{Word, chain}
 use Rattle.release_chain.specs.declared.fault.Fault.{Fault}
-use Rattle.release_chain.specs.declared.fault.Fault.TheVariants.{BadWord, LineNotBuilt, NoMemory, TooManyBytes}
-use Rattle.release_chain.specs.declared.fault.WordKind.{WordKind}
-use Rattle.release_chain.specs.declared.fault.WordKind.TheVariants.{UnknownWord}
+use Rattle.release_chain.specs.declared.fault.Fault.TheVariants.{MissingInput, TooManyBytes}
+use Rattle.release_chain.specs.declared.input.FileFault.{FileFault}
+use Rattle.release_chain.specs.declared.input.FileFault.TheVariants as file
 use Rattle.release_chain.specs.declared.words.Paths.{Paths}
 
--- a bad word, at an index, for a reason
-record IsBadWord (fault : Fault) : Type 0 where
-  index : ℕ
-  kind : WordKind
-  is : fault ≡ BadWord index kind
+-- the run of an input that is held, short enough, and built
+run_input-built : (paths : Paths) (held : _) (bytes : List ℕ) → held ≡ Some bytes → length bytes ≤ byte_limit → unbuilt_line (lines_of bytes) ≡ None → run_input paths held ≡ writes paths (header_text (ontology_name (lines_of bytes)))
+run_input-built paths held bytes is short built =
+    ap (run_input paths) is
+    ∙ ap (λ b. if b then run_lines paths (lines_of bytes) (unbuilt_line (lines_of bytes)) else refuses paths (TooManyBytes paths.input byte_limit)) (le-leb (length bytes) byte_limit short)
+    ∙ ap (run_lines paths (lines_of bytes)) built
 
--- the scan of the words finds bad words and nothing else
-first_misfit-bad : (words : List Word) (places : List Place) (index : ℕ) → IfSome (first_misfit words places index) IsBadWord
-first_misfit-bad words [] index =
-    elim (nat_le (length words) index) as (λ b. IfSome (if b then None else Some (BadWord index UnknownWord)) IsBadWord) [
-      | true ↦ tt
-      | false ↦ record { index = index; kind = UnknownWord; is = refl }
+-- a chain has a known run only where the held files are told
+record Known (before : FolderState) (paths : Paths) (r : Run) : Type 0 where
+  files : Files
+  told : before.holds ≡ Some files
+  is : run_input paths (get files paths.input) ≡ r
+
+known_run : (words : List Word) (before : FolderState) (paths : Paths) (r : Run) → chain words ≡ Ok paths → run words before.holds ≡ Some r → Known before paths r
+known_run words before paths r accepted e =
+    elim before.holds as (λ holds. before.holds ≡ holds → Known before paths r) [
+      | None ↦ λ none. let unknown : run_chain (chain words) None ≡ Some r = rw none at e in let no_run : run_chain (Ok paths) None ≡ Some r = rw accepted at unknown in absurd (cc)
+      | Some files ↦ λ told.
+          let known : run_chain (chain words) (Some files) ≡ Some r = rw told at e in
+          let is_run : run_chain (Ok paths) (Some files) ≡ Some r = rw accepted at known in
+          record { files = files; told = told; is = cc }
+    ] refl
+
+-- to write no output changes nothing
+wrote_nothing : (held : Option Files) → held ≡ option_map (after_outputs []) held
+wrote_nothing None = refl
+wrote_nothing (Some files) = refl
+
+-- the run of a chain opens its input
+run_lines-openings : (paths : Paths) (lines : List Line) (unbuilt : Option ℕ) → (run_lines paths lines unbuilt).openings ≡ record { name = paths.input; behind = [] } ∷ []
+run_lines-openings paths lines None = refl
+run_lines-openings paths lines (Some line) = refl
+
+run_input-openings : (paths : Paths) (held : Option (List ℕ)) → (run_input paths held).openings ≡ record { name = paths.input; behind = [] } ∷ []
+run_input-openings paths None = refl
+run_input-openings paths (Some bytes) =
+    elim (nat_le (length bytes) byte_limit) as (λ b. (if b then run_lines paths (lines_of bytes) (unbuilt_line (lines_of bytes)) else refuses paths (TooManyBytes paths.input byte_limit)).openings ≡ record { name = paths.input; behind = [] } ∷ []) [
+      | true ↦ run_lines-openings paths (lines_of bytes) (unbuilt_line (lines_of bytes))
+      | false ↦ refl
     ]
-first_misfit-bad words (place ∷ places) index =
-    elim (misfit_at words place index) as (λ (r : Option WordKind). IfSome (elim r as (λ _. Option Fault) [ Some kind ↦ Some (BadWord index kind) | None ↦ first_misfit words places (index + 1) ]) IsBadWord) [
-      | None ↦ first_misfit-bad words places (index + 1)
-      | Some kind ↦ record { index = index; kind = kind; is = refl }
-    ]
 
-chain-bad : (words : List Word) (fault : Fault) → chain words ≡ Err fault → IsBadWord fault
-unfolding chain
-chain-bad words fault e =
-    elim (first_misfit words form 0) as (λ (r : Option Fault). IfSome r IsBadWord → (elim r as (λ _. Result Paths Fault) [ Some bad ↦ Err bad | None ↦ Ok (record { input = input_of words; output = output_of words }) ]) ≡ Err fault → IsBadWord fault) [
-      | None ↦ λ bad same. absurd (cc)
-      | Some first ↦ λ bad same. let is : first ≡ fault = cc in subst IsBadWord is bad
-    ] (first_misfit-bad words form 0) e
+-- the run of an input that is refused before its lines are read
+run_input-long : (paths : Paths) (held : Option (List ℕ)) (bytes : List ℕ) → held ≡ Some bytes → byte_limit < length bytes → run_input paths held ≡ refuses paths (TooManyBytes paths.input byte_limit)
+run_input-long paths held bytes is long =
+    ap (run_input paths) is
+    ∙ ap (λ b. if b then run_lines paths (lines_of bytes) (unbuilt_line (lines_of bytes)) else refuses paths (TooManyBytes paths.input byte_limit)) (lt-leb (length bytes) byte_limit long)
 
--- where the words are refused, nothing was touched
-pub words_refused : (words : List Word) (before : FolderState) (fault : Fault) → (chain words ≡ Err fault) ⊎ ((fault ≡ NoMemory) × IsOk (chain words)) → Ends words before (Err fault) before
-words_refused words before fault (inl refused_so) =
-    let bad = chain-bad words fault refused_so in
-    let is : chain words ≡ Err (BadWord bad.index bad.kind) = refused_so ∙ ap (λ (f : Fault). Err f) bad.is in
-    subst (λ (f : Fault). Ends words before (Err f) before) (sym bad.is) (
-      is,
-      if_some _ before.holds (λ files e. record {
-        refusal = ap (λ (c : Result Paths Fault). (elim c as (λ _. Run) [ Err bad ↦ refused bad | Ok paths ↦ run_chain paths (get files paths.input) ]).refusal) (sym is);
-        outputs = e ∙ ap (λ (c : Result Paths Fault). Some (after_outputs files (elim c as (λ _. Run) [ Err bad ↦ refused bad | Ok paths ↦ run_chain paths (get files paths.input) ]).outputs)) (sym is);
-      }),
-    )
-words_refused words before fault (inr no_memory) =
-    subst (λ (f : Fault). Ends words before (Err f) before) (sym no_memory.0)
-    (if_some _ before.holds (λ files e. record { written = []; rest = (run words files).outputs; outputs = refl; wrote = e }))
+-- the run refuses its input, and nothing was written
+ends_refused : (before now : FolderState) (paths : Paths) (fault : Fault) (r : Run) → r ≡ refuses paths fault → now.holds ≡ before.holds → EndsAs r before (Some fault) now
+ends_refused before now paths fault r is same = record {
+  refusal = sym (ap (λ r. r.refusal) is);
+  outputs = rw is (same ∙ wrote_nothing before.holds);
+}
 
--- the run of a chain whose input is held, short enough, and built
-run-written : (words : List Word) (files : Files) (paths : Paths) (bytes : List ℕ) → chain words ≡ Ok paths → get files paths.input ≡ Some bytes → length bytes ≤ byte_limit → unbuilt_line (lines_of bytes) ≡ None
-    → run words files ≡ record { outputs = record { name = paths.output; bytes = header_text (ontology_name (lines_of bytes)) } ∷ []; refusal = None }
-run-written words files paths bytes accepted held short built =
-    ap (λ (c : Result Paths Fault). elim c as (λ _. Run) [ Err bad ↦ refused bad | Ok paths ↦ run_chain paths (get files paths.input) ]) accepted
-    ∙ ap (run_chain paths) held
-    ∙ ap (λ b. if b then run_file paths bytes else refused (TooManyBytes paths.input byte_limit)) (le-leb (length bytes) byte_limit short)
-    ∙ ap (λ (r : Option ℕ). elim r as (λ _. Run) [
-      | Some line ↦ refused (LineNotBuilt paths.input line)
-      | None ↦ record { outputs = record { name = paths.output; bytes = header_text (ontology_name (lines_of bytes)) } ∷ []; refusal = None }
-    ]) built
+-- the input was not read: it is missing or too long, or its turn is where the run stopped
+pub input_failed : (words : List Word) (before now : FolderState) (paths : Paths) (fault : FileFault) → chain words ≡ Ok paths → ReadsFile paths.input byte_limit before (Err fault) now → now.holds ≡ before.holds → Ends words before (Err (fault_of_input paths.input fault)) now
+input_failed words before now paths file.Missing accepted missing same = (
+  record {
+    accepted = rw accepted refl;
+    ending = if_some _ (run words before.holds) (λ r e.
+        let known = known_run words before paths r accepted e in
+        ends_refused before now paths (MissingInput paths.input) r (sym known.is ∙ ap (run_input paths) (at_some _ known.told missing.not_held)) same);
+  },
+  missing.counted,
+)
+input_failed words before now paths file.ReadFault accepted counted same = (
+  rw accepted refl,
+  record {
+    counted = counted;
+    stopped = if_some _ (run words before.holds) (λ r e.
+        let known = known_run words before paths r accepted e in
+        record {
+          opening = record { name = paths.input; behind = [] };
+          is_one = rw (← known.is, run_input-openings) (0, omega arith, refl);
+          named = refl;
+          wrote = same ∙ wrote_nothing before.holds;
+        });
+  },
+)
+input_failed words before now paths file.TooManyBytes accepted long same = record {
+  accepted = rw accepted refl;
+  ending = if_some _ (run words before.holds) (λ r e.
+      let known = known_run words before paths r accepted e in
+      let too_long = at_some _ known.told long in
+      ends_refused before now paths (TooManyBytes paths.input byte_limit) r (sym known.is ∙ run_input-long paths (get known.files paths.input) too_long.0 too_long.1 too_long.2) same);
+}
+input_failed words before now paths file.NoMemory accepted free same =
+    if_some _ (run words before.holds) (λ r e. record { written = []; rest = r.outputs; outputs = refl; wrote = same ∙ wrote_nothing before.holds })
+
+stopped_at_output : (words : List Word) (before mid now : FolderState) (paths : Paths) (bytes : List ℕ) (r : Run) → chain words ≡ Ok paths → IfSome before.holds (λ files. get files paths.input ≡ Some bytes) → length bytes ≤ byte_limit → unbuilt_line (lines_of bytes) ≡ None
+    → mid.holds ≡ before.holds → WriteFailed paths.output mid now → run words before.holds ≡ Some r → StoppedAtOutput r before paths.output now
+stopped_at_output words before mid now paths bytes r accepted held short built same failed e =
+    let known = known_run words before paths r accepted e in
+    let is : r ≡ writes paths (header_text (ontology_name (lines_of bytes))) = sym known.is ∙ run_input-built paths (get known.files paths.input) bytes (at_some _ known.told held) short built in
+    record {
+      written = [];
+      output = record { name = paths.output; bytes = header_text (ontology_name (lines_of bytes)) };
+      rest = [];
+      outputs = ap (λ r. r.outputs) is;
+      named = refl;
+      between = mid.holds;
+      wrote = same ∙ wrote_nothing before.holds;
+      others = failed.others;
+    }
 
 -- the put of the output failed: nothing is known of it, and all else is as it was
 pub write_failed : (words : List Word) (before mid now : FolderState) (paths : Paths) (bytes : List ℕ) → chain words ≡ Ok paths → IfSome before.holds (λ files. get files paths.input ≡ Some bytes) → length bytes ≤ byte_limit → unbuilt_line (lines_of bytes) ≡ None
@@ -78,12 +131,6 @@ write_failed words before mid now paths bytes accepted held short built same cou
   rw accepted refl,
   record {
     counted = let h = counts.write_faults in let k = failed.counted in omega arith;
-    stopped = if_some _ before.holds (λ files e. record {
-      written = [];
-      bytes = header_text (ontology_name (lines_of bytes));
-      rest = [];
-      outputs = ap (λ r. r.outputs) (run-written words files paths bytes accepted (at_some _ e held) short built);
-      others = subst (λ holds. HoldsOthers paths.output holds now.holds) (same ∙ e) failed.others;
-    });
+    stopped = if_some _ (run words before.holds) (λ r e. stopped_at_output words before mid now paths bytes r accepted held short built same failed e);
   },
 )

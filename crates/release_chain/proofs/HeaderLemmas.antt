@@ -3,7 +3,7 @@ use Rattle.std.proofs.Common.{◌≡◌, ℕ, ◌+◌, ◌≤◌, ◌||◌, Bool
 use Rattle.std.proofs.lemmas.List.Folds.{list_any-append}
 use Rattle.std.specs.List.{list_any}
 use Rattle.std.specs.Option.{option_or}
-use Rattle.release_chain.specs.Header.{first_unbuilt, is_built, is_built_where, name_in, ontology_name, unbuilt_line}
+use Rattle.release_chain.specs.Header.{first_unbuilt, is_built, is_built_if, name_in, ontology_name, unbuilt_line}
 use Rattle.release_chain.specs.Lines.{Line, lines_of}
 
 -- a line that names an ontology
@@ -38,21 +38,21 @@ regrouped : (a b c : Option Line) → option_or a (option_or b c) ≡ option_or 
 regrouped None b c = refl
 regrouped (Some a) b c = refl
 
-pub header_goes_on : (bytes rest later : List ℕ) (line : Line) (name : Option Line) (number : ℕ) → HeaderSoFar bytes rest name number → lines_of rest ≡ line ∷ lines_of later → length later + 1 ≤ length rest → is_built_where (is_some name) line ≡ true → HeaderSoFar bytes later (option_or name (name_in line)) (number + 1)
+pub header_goes_on : (bytes rest later : List ℕ) (line : Line) (name : Option Line) (number : ℕ) → HeaderSoFar bytes rest name number → lines_of rest ≡ line ∷ lines_of later → length later + 1 ≤ length rest → is_built_if (is_some name) line ≡ true → HeaderSoFar bytes later (option_or name (name_in line)) (number + 1)
 header_goes_on bytes rest later line name number so_far split shorter built = record {
   earlier = so_far.earlier ++ line ∷ [];
   named = list_any-append names so_far.earlier (line ∷ []) ∙ ap (λ b. b || (names line || false)) so_far.named ∙ either name (name_in line);
   unbuilt = so_far.unbuilt ∙ ap (first_unbuilt so_far.earlier number) split
-      ∙ first_unbuilt-built so_far.earlier number line (lines_of later) (ap (λ b. is_built_where b line) so_far.named ∙ built);
+      ∙ first_unbuilt-built so_far.earlier number line (lines_of later) (ap (λ b. is_built_if b line) so_far.named ∙ built);
   ontology = so_far.ontology ∙ ap (λ lines. option_or name (ontology_name lines)) split ∙ regrouped name (name_in line) (ontology_name (lines_of later));
   counted = let h : number + length rest ≤ length bytes + 1 = so_far.counted in omega arith;
 }
 
 -- a line that is not built is the least one
-pub header_refused : (bytes rest later : List ℕ) (line : Line) (name : Option Line) (number : ℕ) → HeaderSoFar bytes rest name number → lines_of rest ≡ line ∷ lines_of later → is_built_where (is_some name) line ≡ false → unbuilt_line (lines_of bytes) ≡ Some number
+pub header_refused : (bytes rest later : List ℕ) (line : Line) (name : Option Line) (number : ℕ) → HeaderSoFar bytes rest name number → lines_of rest ≡ line ∷ lines_of later → is_built_if (is_some name) line ≡ false → unbuilt_line (lines_of bytes) ≡ Some number
 header_refused bytes rest later line name number so_far split not_built =
     so_far.unbuilt ∙ ap (first_unbuilt so_far.earlier number) split
-    ∙ first_unbuilt-unbuilt so_far.earlier number line (lines_of later) (ap (λ b. is_built_where b line) so_far.named ∙ not_built)
+    ∙ first_unbuilt-unbuilt so_far.earlier number line (lines_of later) (ap (λ b. is_built_if b line) so_far.named ∙ not_built)
 
 -- behind the last line
 pub header_ends : (bytes rest : List ℕ) (name : Option Line) (number : ℕ) → HeaderSoFar bytes rest name number → length rest ≡ 0 → (unbuilt_line (lines_of bytes) ≡ None) × (name ≡ ontology_name (lines_of bytes))

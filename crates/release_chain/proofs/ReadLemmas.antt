@@ -101,7 +101,7 @@ read_ends limit start now next bytes so_far ended = if_some _ (open_file_bytes s
     let front = so_far.known file e in
     let here : open_file_bytes now ≡ Some file = still_open start now file so_far.holds (ap (λ p. p.name) front.opened) e in
     let place : now.opened.place ≡ length bytes = ap (λ p. p.place) front.opened in
-    let at_end : length file ≤ now.opened.place = at_some _ here ended.at_end in
+    let at_end : now.opened.place ≡ length file = at_some _ here ended.at_end in
     front.front ∙ take_all _ _ (omega arith))
 
 -- with a piece that goes past the limit, the file is too long

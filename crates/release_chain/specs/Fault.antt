@@ -1,25 +1,23 @@
--- Which faults a chain refuses by itself, and the status of each ending. (Own.)
-use Rattle.std.specs.Prelude.{ℕ, Bool, true, false, Option, Some, None}
+-- The status of each fault and of each ending, and the faults that are refusals of words or files. (Own.)
+use Rattle.std.specs.Prelude.{ℕ, Bool, Option, Some, None, nat_lt}
 use Rattle.release_chain.specs.declared.fault.Fault.{Fault}
 use Rattle.release_chain.specs.declared.fault.Fault.TheVariants.{BadWord, MissingInput, TooManyBytes, LineNotBuilt, ReadFault, WriteFault, NoMemory}
 
--- 0 without a fault; 1 for a refused file, 2 for refused words, 3 for a failed read or write, 4 for want of memory
-abbrev pub status_of : Option Fault → ℕ
-status_of None = 0
-status_of (Some (BadWord index kind)) = 2
-status_of (Some (MissingInput name)) = 1
-status_of (Some (TooManyBytes name limit)) = 1
-status_of (Some (LineNotBuilt file line)) = 1
-status_of (Some (ReadFault name)) = 3
-status_of (Some (WriteFault name)) = 3
-status_of (Some NoMemory) = 4
+-- 1 for a refused file, 2 for refused words, 3 for a failed read or write, 4 for want of memory
+abbrev pub status_of : Fault → ℕ
+status_of (BadWord index kind) = 2
+status_of (MissingInput name) = 1
+status_of (TooManyBytes name limit) = 1
+status_of (LineNotBuilt file line) = 1
+status_of (ReadFault name) = 3
+status_of (WriteFault name) = 3
+status_of NoMemory = 4
 
--- the words or a file are refused; nothing outside failed
+-- 0 without a fault
+abbrev pub status_of_ending : Option Fault → ℕ
+status_of_ending None = 0
+status_of_ending (Some fault) = status_of fault
+
+-- the words or a file are refused; nothing outside failed, and memory was there
 abbrev pub is_refusal : Fault → Bool
-is_refusal (BadWord index kind) = true
-is_refusal (MissingInput name) = true
-is_refusal (TooManyBytes name limit) = true
-is_refusal (LineNotBuilt file line) = true
-is_refusal (ReadFault name) = false
-is_refusal (WriteFault name) = false
-is_refusal NoMemory = false
+is_refusal fault = nat_lt (status_of fault) 3

@@ -1,5 +1,5 @@
--- The lines that are built so far, all of them of the header, and the text that is written of them.
--- (OBO Flat File Format 1.4, section 3: the header; which lines are built is our own.)
+-- The lines that are built so far, all of them of the header, and the text that is written of them. (OBO Flat File
+-- Format 1.4, document header; which lines are built, and what is written, is our own.)
 use Rattle.std.specs.Prelude.{ℕ, ◌+◌, ◌==◌, ◌&&◌, ◌||◌, Bool, if◌then◌else◌, List, [], ◌∷◌, ◌++◌, Option, Some, None, codes, drop, is_some, length, nat_eq, nat_le, nat_lt, not}
 use Rattle.std.specs.Option.{option_or}
 use Rattle.std.specs.List.{list_all, list_any, starts_with}
@@ -21,15 +21,15 @@ name_in line =
     then Some (drop 10 line)
     else None
 
--- whether a line is built, where an ontology was named before it or not: an empty line, a format-version, or the first
--- ontology; all of printable bytes
-abbrev pub is_built_where : Bool → Line → Bool
-is_built_where named line =
+-- whether a line is built, if an ontology was named before it or not: an empty line, a format-version, or an ontology
+-- where none was named; all of printable bytes
+abbrev pub is_built_if : Bool → Line → Bool
+is_built_if named line =
     list_all is_printable line && (length line == 0 || starts_with nat_eq line (codes "format-version: ") || (is_some (name_in line) && not named))
 
 -- whether a line is built behind the lines that stand before it
 abbrev pub is_built : List Line → Line → Bool
-is_built earlier line = is_built_where (list_any (λ before. is_some (name_in before)) earlier) line
+is_built earlier line = is_built_if (list_any (λ before. is_some (name_in before)) earlier) line
 
 -- the number of the first of these lines that is not built, where they stand behind earlier ones and the first has
 -- this number

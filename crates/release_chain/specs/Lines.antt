@@ -1,5 +1,5 @@
--- The lines of a file: each is ended by LF or by the end of the file, and none follows the last LF.
--- (OBO Flat File Format 1.4, section 2.)
+-- The lines of a file: each is ended by LF or by the end of the file, and none follows the last LF. (Own, after the
+-- lines of the OBO Flat File Format 1.4.)
 use Rattle.std.specs.Prelude.{ℕ, ◌==◌, if◌then◌else◌, List, [], ◌∷◌}
 
 -- a line, without its end

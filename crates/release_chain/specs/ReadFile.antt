@@ -13,7 +13,7 @@ pub record IsWhole (name : List ℕ) (limit : ℕ) (before : FolderState) (bytes
   pub held : IfSome before.holds (λ files. get files name ≡ Some bytes)
 
 -- there is no such file
-pub record IsMissed (name : List ℕ) (before now : FolderState) : Type 0 where
+pub record IsNotThere (name : List ℕ) (before now : FolderState) : Type 0 where
   pub counted : Rose before.misses now.misses
   pub not_held : IfSome before.holds (λ files. get files name ≡ None)
 
@@ -24,7 +24,7 @@ IsTooLong name limit before = IfSome before.holds (λ files. (bytes : List ℕ) 
 -- what an answer to reading a file says
 abbrev pub ReadsFile : List ℕ → ℕ → FolderState → Result (List ℕ) FileFault → FolderState → Type 0
 ReadsFile name limit before (Ok bytes) now = IsWhole name limit before bytes
-ReadsFile name limit before (Err Missing) now = IsMissed name before now
+ReadsFile name limit before (Err Missing) now = IsNotThere name before now
 ReadsFile name limit before (Err ReadFault) now = Rose before.read_faults now.read_faults
 ReadsFile name limit before (Err TooManyBytes) now = IsTooLong name limit before
 ReadsFile name limit before (Err NoMemory) now = Unit {0}

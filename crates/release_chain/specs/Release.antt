@@ -1,92 +1,99 @@
 -- What an ending of the program says, each clause over the words, the folder before the call, the fault, and the
--- folder after it. Where the folder tells what it holds, the ending is that of the run. (Own.)
-use Rattle.std.specs.Prelude.{◌≡◌, ◌≢◌, ◌⊎◌, ℕ, List, ◌++◌, ◌∷◌, Option, Some, None, Err, IfErr, IfSome, IsTrue}
+-- folder after it. Where the run of the words is known, the ending is that of the run, as far as nothing outside failed
+-- and memory was there. (Own.)
+use Rattle.std.specs.Prelude.{◌≡◌, ◌≢◌, ◌⊎◌, ℕ, List, ◌++◌, ◌∷◌, Option, Some, None, Err, Contains, IfErr, IfSome, IsTrue}
+use Rattle.std.specs.Option.{option_map}
 use Rattle.rel_io.specs.Count.{Rose}
 use Rattle.rel_io.specs.Folder.{HoldsOthers}
 use Rattle.rel_io.specs.FolderState.{Files, FolderState}
 use Rattle.rel_io.specs.Sink.{SinkState}
 use Rattle.release_chain.specs.Fault.{is_refusal}
-use Rattle.release_chain.specs.Run.{OpensAfter, Output, after_outputs, run}
+use Rattle.release_chain.specs.Run.{Opening, Output, Run, after_outputs, run}
 use Rattle.release_chain.specs.Words.{Word, chain}
 use Rattle.release_chain.specs.declared.fault.Fault.{Fault}
-use Rattle.release_chain.specs.declared.fault.WordKind.{WordKind}
 use Rattle.release_chain.specs.declared.fault.Fault.TheVariants.{BadWord, MissingInput, ReadFault, WriteFault, NoMemory}
+use Rattle.release_chain.specs.declared.fault.WordKind.{WordKind}
 
--- the folder holds what it held, and exactly these outputs besides
-abbrev pub Wrote : Files → List Output → FolderState → Type 0
-Wrote files outputs now = now.holds ≡ Some (after_outputs files outputs)
+-- what is held is what was held, and exactly these outputs besides
+abbrev pub Wrote : List Output → Option Files → Option Files → Type 0
+Wrote outputs before now = now ≡ option_map (after_outputs outputs) before
 
 -- the ending is that of the run: its outputs were written, and its refusal, if any, is the fault
-pub record IsEndOfRun (words : List Word) (files : Files) (fault : Option Fault) (now : FolderState) : Type 0 where
-  pub refusal : fault ≡ (run words files).refusal
-  pub outputs : Wrote files (run words files).outputs now
+pub record EndsAs (run : Run) (before : FolderState) (fault : Option Fault) (now : FolderState) : Type 0 where
+  pub refusal : fault ≡ run.refusal
+  pub outputs : Wrote run.outputs before.holds now.holds
 
--- without a fault the run has none, and its outputs are written
+-- without a fault the ending is that of the run
 abbrev pub Done : List Word → FolderState → Option Fault → FolderState → Type 0
-Done words before fault now = fault ≡ None → IfSome before.holds (λ files. IsEndOfRun words files fault now)
+Done words before fault now = fault ≡ None → IfSome (run words before.holds) (λ run. EndsAs run before fault now)
 
 -- what is refused is what the run refuses, behind its outputs
 abbrev pub Refused : List Word → FolderState → Option Fault → FolderState → Type 0
 Refused words before fault now =
-    (refusal : Fault) → fault ≡ Some refusal → IsTrue (is_refusal refusal) → IfSome before.holds (λ files. IsEndOfRun words files fault now)
+    (refusal : Fault) → fault ≡ Some refusal → IsTrue (is_refusal refusal) → IfSome (run words before.holds) (λ run. EndsAs run before fault now)
 
--- bad words are refused in every run, unless memory ran out, and nothing else is called a bad word
-pub record BadWordsRefused (words : List Word) (fault : Option Fault) : Type 0 where
-  pub always : IfErr (chain words) (λ bad. (fault ≡ Some bad) ⊎ (fault ≡ Some NoMemory))
-  pub only : (index : ℕ) (kind : WordKind) → fault ≡ Some (BadWord index kind) → chain words ≡ Err (BadWord index kind)
+-- nothing outside failed in the call: no read, no write and no write to standard output
+pub record NothingFailed (before now : FolderState) (out_before out_now : SinkState) : Type 0 where
+  pub read : ¬ Rose before.read_faults now.read_faults
+  pub write : ¬ Rose before.write_faults now.write_faults
+  pub out : ¬ Rose out_before.faults out_now.faults
+
+-- where nothing outside failed, the ending is that of the run, unless memory ran out
+abbrev pub Complete : List Word → FolderState → SinkState → Option Fault → FolderState → SinkState → Type 0
+Complete words before out_before fault now out_now =
+    NothingFailed before now out_before out_now → fault ≢ Some NoMemory → IfSome (run words before.holds) (λ run. EndsAs run before fault now)
+
+-- wrong words are refused in every run, unless memory ran out, before anything is touched; nothing else is called so
+pub record BadWordsRefused (words : List Word) (before : FolderState) (fault : Option Fault) (now : FolderState) : Type 0 where
+  pub always : IfErr (chain words) (λ wrong. (fault ≡ Some (BadWord wrong.index wrong.kind)) ⊎ (fault ≡ Some NoMemory))
+  pub only : (index : ℕ) (kind : WordKind) → fault ≡ Some (BadWord index kind) → chain words ≡ Err (record { index = index; kind = kind })
+  pub untouched : (index : ℕ) (kind : WordKind) → fault ≡ Some (BadWord index kind) → now ≡ before
 
 -- an input is called missing only where the folder missed a file
 abbrev pub MissesCounted : FolderState → Option Fault → FolderState → Type 0
 MissesCounted before fault now = (name : List ℕ) → fault ≡ Some (MissingInput name) → Rose before.misses now.misses
 
--- the outputs before the turn of a file that the run opens are written
-pub record StoppedAtInput (words : List Word) (files : Files) (name : List ℕ) (now : FolderState) : Type 0 where
-  pub outputs : List Output
-  pub turn : OpensAfter words outputs name
-  pub wrote : Wrote files outputs now
+-- the run ended at the turn of a file of this name, behind exactly the outputs before it
+pub record StoppedAtInput (run : Run) (before : FolderState) (name : List ℕ) (now : FolderState) : Type 0 where
+  pub opening : Opening
+  pub is_one : Contains run.openings opening
+  pub named : opening.name ≡ name
+  pub wrote : Wrote opening.behind before.holds now.holds
 
--- a read fault comes only where an open or a read failed, and names a file whose turn it was
+-- a read fault comes only where opening or reading failed, and names a file whose turn it was
 pub record ReadFaultCaused (words : List Word) (before : FolderState) (name : List ℕ) (now : FolderState) : Type 0 where
   pub counted : Rose before.read_faults now.read_faults
-  pub stopped : IfSome before.holds (λ files. StoppedAtInput words files name now)
+  pub stopped : IfSome (run words before.holds) (λ run. StoppedAtInput run before name now)
 
 abbrev pub ReadFaults : List Word → FolderState → Option Fault → FolderState → Type 0
 ReadFaults words before fault now = (name : List ℕ) → fault ≡ Some (ReadFault name) → ReadFaultCaused words before name now
 
--- the outputs before one of this name are written; of that name nothing is said, and all else is as it was
-pub record StoppedAtOutput (words : List Word) (files : Files) (name : List ℕ) (now : FolderState) : Type 0 where
+-- the run ended at the turn of an output of this name, behind the outputs before it; of that name nothing is known
+pub record StoppedAtOutput (run : Run) (before : FolderState) (name : List ℕ) (now : FolderState) : Type 0 where
   pub written : List Output
-  pub bytes : List ℕ
+  pub output : Output
   pub rest : List Output
-  pub outputs : (run words files).outputs ≡ written ++ record { name = name; bytes = bytes } ∷ rest
-  pub others : HoldsOthers name (Some (after_outputs files written)) now.holds
+  pub outputs : run.outputs ≡ written ++ output ∷ rest
+  pub named : output.name ≡ name
+  pub between : Option Files
+  pub wrote : Wrote written before.holds between
+  pub others : HoldsOthers name between now.holds
 
--- a write fault comes only where a write failed, and names the output whose turn it was
+-- a write fault comes only where writing failed, and names the output whose turn it was
 pub record WriteFaultCaused (words : List Word) (before : FolderState) (name : List ℕ) (now : FolderState) : Type 0 where
   pub counted : Rose before.write_faults now.write_faults
-  pub stopped : IfSome before.holds (λ files. StoppedAtOutput words files name now)
+  pub stopped : IfSome (run words before.holds) (λ run. StoppedAtOutput run before name now)
 
 abbrev pub WriteFaults : List Word → FolderState → Option Fault → FolderState → Type 0
 WriteFaults words before fault now = (name : List ℕ) → fault ≡ Some (WriteFault name) → WriteFaultCaused words before name now
 
--- the first outputs of the run are written, and no other
-pub record WrotePrefix (words : List Word) (files : Files) (now : FolderState) : Type 0 where
+-- the first outputs of the run are written, each of them whole, and no other
+pub record WrotePrefix (run : Run) (before now : FolderState) : Type 0 where
   pub written : List Output
   pub rest : List Output
-  pub outputs : (run words files).outputs ≡ written ++ rest
-  pub wrote : Wrote files written now
+  pub outputs : run.outputs ≡ written ++ rest
+  pub wrote : Wrote written before.holds now.holds
 
--- want of memory may come at any moment, between two outputs and never within one
+-- memory may run out before, between and behind the outputs, and never within one
 abbrev pub MemoryRanOut : List Word → FolderState → Option Fault → FolderState → Type 0
-MemoryRanOut words before fault now = fault ≡ Some NoMemory → IfSome before.holds (λ files. WrotePrefix words files now)
-
--- nothing outside failed in the call: no read, no write and no write to standard output
-pub record NothingFailed (before now : FolderState) (out_before out_now : SinkState) : Type 0 where
-  pub read : ¬ (Rose before.read_faults now.read_faults)
-  pub write : ¬ (Rose before.write_faults now.write_faults)
-  pub out : ¬ (Rose out_before.faults out_now.faults)
-
--- where nothing outside failed, the ending is that of the run, unless memory ran out
-abbrev pub Complete : List Word → FolderState → SinkState → Option Fault → FolderState → SinkState → Type 0
-Complete words before out_before fault now out_now =
-    IfSome before.holds (λ files. NothingFailed before now out_before out_now → fault ≢ Some NoMemory → IsEndOfRun words files fault now)
+MemoryRanOut words before fault now = fault ≡ Some NoMemory → IfSome (run words before.holds) (λ run. WrotePrefix run before now)

@@ -1,55 +1,73 @@
 -- What a run of the program is, of its words and of the files that the folder holds. (Own.)
-use Rattle.std.specs.Prelude.{◌≡◌, ℕ, if◌then◌else◌, List, [], ◌∷◌, Option, Some, None, Ok, Err, length, nat_le}
+use Rattle.std.specs.Prelude.{ℕ, if◌then◌else◌, List, [], ◌∷◌, Option, Some, None, Result, Ok, Err, length, nat_le}
 use Rattle.std.specs.FinMap.{get, insert}
+use Rattle.std.specs.Option.{option_map}
 use Rattle.rel_io.specs.FolderState.{Files}
 use Rattle.release_chain.specs.Header.{header_text, ontology_name, unbuilt_line}
-use Rattle.release_chain.specs.Lines.{lines_of}
+use Rattle.release_chain.specs.Lines.{Line, lines_of}
 use Rattle.release_chain.specs.Words.{Word, chain}
 use Rattle.release_chain.specs.declared.fault.Fault.{Fault}
-use Rattle.release_chain.specs.declared.fault.Fault.TheVariants.{MissingInput, TooManyBytes, LineNotBuilt}
+use Rattle.release_chain.specs.declared.fault.Fault.TheVariants.{BadWord, MissingInput, TooManyBytes, LineNotBuilt}
 use Rattle.release_chain.specs.declared.words.Paths.{Paths}
+use Rattle.release_chain.specs.declared.words.WrongWord.{WrongWord}
 
 -- a file that is written
 pub record Output : Type 0 where
   pub name : List ℕ
   pub bytes : List ℕ
 
--- the files that are written, in their order, and the refusal behind them that ends the run, if any
+-- a file that is opened, behind these outputs
+pub record Opening : Type 0 where
+  pub name : List ℕ
+  pub behind : List Output
+
 pub record Run : Type 0 where
+  -- the files that are opened, in their order
+  pub openings : List Opening
+  -- the files that are written, in their order
   pub outputs : List Output
+  -- what ends the run behind them, if anything is refused
   pub refusal : Option Fault
 
 -- the most bytes that the files of a chain have together
 abbrev pub byte_limit : ℕ
 byte_limit = 268435456
 
-abbrev pub refused : Fault → Run
-refused fault = record { outputs = []; refusal = Some fault }
+-- a run that opens the input and refuses
+abbrev pub refuses : Paths → Fault → Run
+refuses paths fault = record { openings = record { name = paths.input; behind = [] } ∷ []; outputs = []; refusal = Some fault }
 
--- the run of a file's bytes: the text of its header, or the first line that is not built
-abbrev pub run_file : Paths → List ℕ → Run
-run_file paths bytes = elim (unbuilt_line (lines_of bytes)) [
-  | Some line ↦ refused (LineNotBuilt paths.input line)
-  | None ↦ record { outputs = record { name = paths.output; bytes = header_text (ontology_name (lines_of bytes)) } ∷ []; refusal = None }
-]
+-- a run that opens the input and writes this text to the output
+abbrev pub writes : Paths → List ℕ → Run
+writes paths text = record {
+  openings = record { name = paths.input; behind = [] } ∷ [];
+  outputs = record { name = paths.output; bytes = text } ∷ [];
+  refusal = None;
+}
 
--- the run of a chain: its input is held and has no more bytes than the limit
-abbrev pub run_chain : Paths → Option (List ℕ) → Run
-run_chain paths None = refused (MissingInput paths.input)
-run_chain paths (Some bytes) = if nat_le (length bytes) byte_limit then run_file paths bytes else refused (TooManyBytes paths.input byte_limit)
+-- the run of a file's lines, by the least of them that is not built: without one it writes the header
+abbrev pub run_lines : Paths → List Line → Option ℕ → Run
+run_lines paths lines (Some line) = refuses paths (LineNotBuilt paths.input line)
+run_lines paths lines None = writes paths (header_text (ontology_name lines))
 
--- the run of the words over the files that are held
-abbrev pub run : List Word → Files → Run
-run words files = elim (chain words) [ Err bad ↦ refused bad | Ok paths ↦ run_chain paths (get files paths.input) ]
+-- the run of the input: it is held, and has no more bytes than the limit, or it is refused
+abbrev pub run_input : Paths → Option (List ℕ) → Run
+run_input paths None = refuses paths (MissingInput paths.input)
+run_input paths (Some bytes) =
+    if nat_le (length bytes) byte_limit
+    then run_lines paths (lines_of bytes) (unbuilt_line (lines_of bytes))
+    else refuses paths (TooManyBytes paths.input byte_limit)
+
+-- the run of a chain, where the held files are told; wrong words are refused by themselves
+abbrev pub run_chain : Result Paths WrongWord → Option Files → Option Run
+run_chain (Err wrong) held = Some (record { openings = []; outputs = []; refusal = Some (BadWord wrong.index wrong.kind) })
+run_chain (Ok paths) held = option_map (λ files. run_input paths (get files paths.input)) held
+
+-- the run of the words over the files that a folder holds: none where it takes files that the folder does not tell
+abbrev pub run : List Word → Option Files → Option Run
+run words held = run_chain (chain words) held
 
 -- the files that are held after these outputs were put
-abbrev pub after_outputs : Files → List Output → Files
-after_outputs files [] = files
-after_outputs files (output ∷ outputs) = after_outputs (insert files output.name output.bytes) outputs
-
--- the run opens a file of this name behind these outputs
-pub record OpensAfter (words : List Word) (outputs : List Output) (name : List ℕ) : Type 0 where
-  pub first : outputs ≡ []
-  pub paths : Paths
-  pub chain_is : chain words ≡ Ok paths
-  pub input : paths.input ≡ name
+abbrev pub after_outputs : List Output → Files → Files
+after_outputs [] files = files
+after_outputs (output ∷ outputs) files = after_outputs outputs (insert files output.name output.bytes)

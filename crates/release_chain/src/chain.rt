@@ -2,10 +2,10 @@
 ghost use Rattle.std.specs.Prelude.{◌≡◌, map};
 ghost use Rattle.std.specs.String.{string_bytes};
 ghost use Rattle.rel_io.specs.FolderState.{NoCountFell};
-ghost use Rattle.release_chain.specs.Ending.{Ends, fault_of_input};
+ghost use Rattle.release_chain.specs.Ending.{Ends, EndsChain, fault_of_input};
 
 use crate::header::{header_text, read_header};
-use crate::words::read_words;
+use crate::words::{Paths, read_words};
 use crate::{Fault, FileFault, read_file};
 use rel_io::{Bytes, Dup, Folder, PutFault};
 use std::alloc::Global;
@@ -14,10 +14,17 @@ use std::alloc::Global;
 const BYTE_LIMIT: u64 = 268435456;
 
 /// Runs the chain of these words in a folder.
-pub fn run_chain<F: Folder>(alloc: Global, words: &[String], folder: &mut F) -> Result<(), Fault>
+pub fn run_words<F: Folder>(alloc: Global, words: &[String], folder: &mut F) -> Result<(), Fault>
     ensures { Ends (map string_bytes words.now) (F.state folder.old) result (F.state folder.new) }
 {
     let paths = read_words(alloc, words)?;
+    run_chain(alloc, &paths, folder)
+}
+
+/// Reads the input and puts the output.
+fn run_chain<F: Folder>(alloc: Global, paths: &Paths, folder: &mut F) -> Result<(), Fault>
+    ensures { EndsChain paths.now (F.state folder.old) result (F.state folder.new) }
+{
     let name = paths.input.copy(alloc)?;
     let bytes = match read_file(alloc, folder, &paths.input, BYTE_LIMIT) {
         Ok(bytes) => bytes,

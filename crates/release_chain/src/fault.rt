@@ -1,10 +1,11 @@
 //! The faults that end a chain, and the status with which the program ends.
-ghost use Rattle.std.specs.Prelude.{◌≡◌, Some};
-ghost use Rattle.release_chain.specs.Fault.{status_of};
-ghost use Rattle.release_chain.specs.declared.fault.Fault.TheVariants.{NoMemory};
+ghost use Rattle.std.specs.Prelude.{◌≡◌};
+ghost use Rattle.release_chain.specs.Fault.{status_of, status_of_ending};
+ghost use Rattle.release_chain.specs.declared.fault.Fault.TheVariants.{BadWord, NoMemory};
 
+use crate::words::WrongWord;
 use rel_io::{Bytes, Dup};
-use std::alloc::{AllocError, AllocFailed, Global};
+use std::alloc::{AllocError, Global};
 
 /// Why a word of the command line is refused.
 #[derive(Clone, Copy, Debug, PartialEq, Eq)]
@@ -22,7 +23,7 @@ pub enum WordKind {
 }
 
 /// What ended a chain before its end.
-#[derive(Debug, Drop)]
+#[derive(Debug, PartialEq, Eq, Drop)]
 pub enum Fault {
     /// The first word that departs from the form of a chain: its index, from 0 behind the program's name.
     BadWord { index: u32, kind: WordKind },
@@ -41,7 +42,7 @@ pub enum Fault {
 }
 
 /// How the program ended: its status, and its fault where the status is not 0.
-#[derive(Debug, Drop)]
+#[derive(Debug, PartialEq, Eq, Drop)]
 pub struct Ended {
     /// The status of the process: 0 for success, 1 for a refused file, 2 for refused words, 3 for a failed
     /// read or write, 4 for want of memory.
@@ -66,11 +67,14 @@ impl From<AllocError> for Fault {
     }
 }
 
-impl<T: Drop> From<AllocFailed<T>> for Fault {
-    ghost from_gives = { λ _ fault. fault ≡ NoMemory };
+impl From<WrongWord> for Fault {
+    ghost from_gives = { λ wrong fault. fault ≡ BadWord wrong.index wrong.kind };
 
-    fn from(_: AllocFailed<T>) -> Fault {
-        Fault::NoMemory
+    fn from(wrong: WrongWord) -> Fault {
+        Fault::BadWord {
+            index: wrong.index,
+            kind: wrong.kind,
+        }
     }
 }
 
@@ -123,7 +127,7 @@ impl Ended {
     /// The ending with this fault, or with none.
     pub(crate) fn with(fault: Option<Fault>) -> Ended
         ensures fault { result.fault ≡ fault }
-        ensures status { result.status ≡ status_of fault }
+        ensures status { result.status ≡ status_of_ending fault }
     {
         let status = match &fault {
             None => 0,
@@ -135,7 +139,7 @@ impl Ended {
 
 /// The status of a fault.
 fn status(fault: &Fault) -> u8
-    ensures { result ≡ status_of (Some fault.now) }
+    ensures { result ≡ status_of fault.now }
 {
     match fault {
         Fault::BadWord { .. } => 2,

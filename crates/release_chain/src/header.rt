@@ -3,7 +3,7 @@
 ghost use Rattle.std.specs.Prelude.{◌≡◌, ◌<◌, ◌^◌, ◌-◌, IfOk, MatchResult, Some, None, is_some, length, nat_eq, true};
 ghost use Rattle.std.specs.List.{list_all};
 ghost use Rattle.std.specs.Option.{option_copied};
-ghost use Rattle.release_chain.specs.Header.{header_text, is_built_where, is_name_byte, is_printable, name_in, ontology_name, unbuilt_line};
+ghost use Rattle.release_chain.specs.Header.{header_text, is_built_if, is_name_byte, is_printable, name_in, ontology_name, unbuilt_line};
 ghost use Rattle.release_chain.specs.Lines.{lines_of};
 
 use crate::lines::split_line;
@@ -39,7 +39,7 @@ pub fn read_header(bytes: &[u8]) -> Result<Option<&[u8]>, u32>
 
 /// Whether a line is built, where an ontology was named before it or not.
 fn is_built(named: bool, line: &[u8]) -> bool
-    ensures { result ≡ is_built_where named line.now }
+    ensures { result ≡ is_built_if named line.now }
 {
     is_all_printable(line)
         && (line.is_empty()

@@ -14,3 +14,6 @@ mod words;
 pub use fault::{Ended, Fault, WordKind};
 pub use input::{FileFault, read_file};
 pub use program::release;
+
+#[cfg(test)]
+mod tests;

@@ -1,14 +1,21 @@
 //! The words of the command line: the names of input and output, or the first word that departs from
 //! `merge --input A convert --output B`.
-ghost use Rattle.std.specs.Prelude.{◌≡◌, ◌⊎◌, ◌∷◌, [], MatchResult, Some, None, Ok, Err, List, map, IsOk, slice_get};
+ghost use Rattle.std.specs.Prelude.{◌≡◌, ◌∷◌, [], MatchResult, Some, None, Ok, Err, List, map, slice_get};
 ghost use Rattle.std.specs.Option.{option_copied};
 ghost use Rattle.std.specs.String.{string_bytes};
-ghost use Rattle.release_chain.specs.Words.{Fixed, Input, Output, Place, chain, first_misfit, input_of, misfit_at, output_of};
-ghost use Rattle.release_chain.specs.declared.fault.Fault.TheVariants.{NoMemory};
+ghost use Rattle.release_chain.specs.Ending.{RefusesWords};
+ghost use Rattle.release_chain.specs.Words.{Fixed, InputName, OutputName, Place, chain, first_wrong, input_of, misfit_at, output_of};
 
 use crate::{Fault, WordKind};
 use rel_io::Bytes;
 use std::alloc::Global;
+
+/// The first word that departs from the chain: its index, from 0, and why it is wrong.
+#[derive(Clone, Copy, Debug)]
+pub struct WrongWord {
+    pub index: u32,
+    pub kind: WordKind,
+}
 
 /// The names of the files of a chain.
 #[derive(Debug, Drop)]
@@ -17,11 +24,9 @@ pub struct Paths {
     pub output: Bytes,
 }
 
-/// The names of input and output, or the first bad word.
+/// The names of input and output, or the fault of the first wrong word.
 pub fn read_words(alloc: Global, words: &[String]) -> Result<Paths, Fault>
-    ensures { MatchResult result
-        (λ paths. chain (map string_bytes words.now) ≡ Ok paths)
-        (λ fault. (chain (map string_bytes words.now) ≡ Err fault) ⊎ ((fault ≡ NoMemory) × IsOk (chain (map string_bytes words.now)))) }
+    ensures { MatchResult result (λ paths. chain (map string_bytes words.now) ≡ Ok paths) (RefusesWords (map string_bytes words.now)) }
 {
     let (input, output) = find_paths(words)?;
     let input = Bytes::from_vec(Vec::from_slice(alloc, input)?);
@@ -31,10 +36,10 @@ pub fn read_words(alloc: Global, words: &[String]) -> Result<Paths, Fault>
 
 /// The words at the places of the two names, where all words fit.
 #[tactic(auto, unfolding(crate::specs::Words::chain))]
-fn find_paths(words: &[String]) -> Result<(&[u8], &[u8]), Fault>
+fn find_paths(words: &[String]) -> Result<(&[u8], &[u8]), WrongWord>
     ensures { MatchResult result
         (λ found. chain (map string_bytes words.now) ≡ Ok (record { input = found.0.now; output = found.1.now }))
-        (λ fault. chain (map string_bytes words.now) ≡ Err fault) }
+        (λ wrong. chain (map string_bytes words.now) ≡ Err wrong) }
 {
     expect_word(words, 0, "merge")?;
     expect_word(words, 1, "--input")?;
@@ -48,69 +53,69 @@ fn find_paths(words: &[String]) -> Result<(&[u8], &[u8]), Fault>
 
 /// One word alone may stand at this place.
 #[tactic(auto, unfolding(crate::specs::Words::misfit_at))]
-fn expect_word(words: &[String], index: u32, text: &str) -> Result<(), Fault>
+fn expect_word(words: &[String], index: u32, text: &str) -> Result<(), WrongWord>
     ensures { MatchResult result
         (λ _. misfit_at (map string_bytes words.now) (Fixed text.now) index ≡ None)
-        (λ fault. (places : List Place) → first_misfit (map string_bytes words.now) (Fixed text.now ∷ places) index ≡ Some fault) }
+        (λ wrong. (places : List Place) → first_wrong (map string_bytes words.now) (Fixed text.now ∷ places) index ≡ Some wrong) }
 {
     let Some(word) = word_at(words, index as usize) else {
-        return Err(bad_word(index, WordKind::NoValue));
+        return Err(wrong(index, WordKind::NoValue));
     };
     if word != text.as_bytes() {
-        return Err(bad_word(index, WordKind::UnknownWord));
+        return Err(wrong(index, WordKind::UnknownWord));
     }
     Ok(())
 }
 
 /// The name of the input, which is not empty.
 #[tactic(auto, unfolding(crate::specs::Words::misfit_at))]
-fn input_name(words: &[String]) -> Result<&[u8], Fault>
+fn input_name(words: &[String]) -> Result<&[u8], WrongWord>
     ensures { MatchResult result
-        (λ name. (misfit_at (map string_bytes words.now) Input 2 ≡ None) × (name.now ≡ input_of (map string_bytes words.now)))
-        (λ fault. (places : List Place) → first_misfit (map string_bytes words.now) (Input ∷ places) 2 ≡ Some fault) }
+        (λ name. (misfit_at (map string_bytes words.now) InputName 2 ≡ None) × (name.now ≡ input_of (map string_bytes words.now)))
+        (λ wrong. (places : List Place) → first_wrong (map string_bytes words.now) (InputName ∷ places) 2 ≡ Some wrong) }
 {
     let Some(name) = word_at(words, 2) else {
-        return Err(bad_word(2, WordKind::NoValue));
+        return Err(wrong(2, WordKind::NoValue));
     };
     if name.is_empty() {
-        return Err(bad_word(2, WordKind::BadValue));
+        return Err(wrong(2, WordKind::BadValue));
     }
     Ok(name)
 }
 
 /// The name of the output, which is not empty, ends in `.obo` and is not that of the input.
 #[tactic(auto, unfolding(crate::specs::Words::misfit_at))]
-fn output_name<'a>(words: &'a [String], input: &[u8]) -> Result<&'a [u8], Fault>
+fn output_name<'a>(words: &'a [String], input: &[u8]) -> Result<&'a [u8], WrongWord>
     requires { input.now ≡ input_of (map string_bytes words.now) }
     ensures { MatchResult result
-        (λ name. (misfit_at (map string_bytes words.now) Output 5 ≡ None) × (name.now ≡ output_of (map string_bytes words.now)))
-        (λ fault. (places : List Place) → first_misfit (map string_bytes words.now) (Output ∷ places) 5 ≡ Some fault) }
+        (λ name. (misfit_at (map string_bytes words.now) OutputName 5 ≡ None) × (name.now ≡ output_of (map string_bytes words.now)))
+        (λ wrong. (places : List Place) → first_wrong (map string_bytes words.now) (OutputName ∷ places) 5 ≡ Some wrong) }
 {
     let Some(name) = word_at(words, 5) else {
-        return Err(bad_word(5, WordKind::NoValue));
+        return Err(wrong(5, WordKind::NoValue));
     };
     if name.is_empty() {
-        return Err(bad_word(5, WordKind::BadValue));
+        return Err(wrong(5, WordKind::BadValue));
     }
     if !name.ends_with(b".obo") {
-        return Err(bad_word(5, WordKind::NoFormat));
+        return Err(wrong(5, WordKind::NoFormat));
     }
     if name == input {
-        return Err(bad_word(5, WordKind::OutputIsInput));
+        return Err(wrong(5, WordKind::OutputIsInput));
     }
     Ok(name)
 }
 
 /// No word may stand behind the name of the output.
-fn expect_end(words: &[String]) -> Result<(), Fault>
+fn expect_end(words: &[String]) -> Result<(), WrongWord>
     ensures { MatchResult result
-        (λ _. first_misfit (map string_bytes words.now) [] 6 ≡ None)
-        (λ fault. first_misfit (map string_bytes words.now) [] 6 ≡ Some fault) }
+        (λ _. first_wrong (map string_bytes words.now) [] 6 ≡ None)
+        (λ wrong. first_wrong (map string_bytes words.now) [] 6 ≡ Some wrong) }
 {
     if words.len() <= 6 {
         Ok(())
     } else {
-        Err(bad_word(6, WordKind::UnknownWord))
+        Err(wrong(6, WordKind::UnknownWord))
     }
 }
 
@@ -124,9 +129,9 @@ fn word_at(words: &[String], index: usize) -> Option<&[u8]>
     }
 }
 
-/// A word is refused.
-fn bad_word(index: u32, kind: WordKind) -> Fault
-    ensures { result ≡ Fault.BadWord index kind }
+/// The word at an index is wrong.
+fn wrong(index: u32, kind: WordKind) -> WrongWord
+    ensures { result ≡ record { index = index; kind = kind } }
 {
-    Fault::BadWord { index, kind }
+    WrongWord { index, kind }
 }

@@ -1,13 +1,14 @@
 //! The folder in which the program was called: files by their paths.
-ghost use Rattle.std.specs.Prelude.{None, is_some, []};
+ghost use Rattle.std.specs.Prelude.{◌≡◌, None, [], false};
 
 use rel_io::{Folder, Got, Opened, PutFault};
 use std::io::{ErrorKind, Read};
+use std::marker::Model;
 use std::rt::Files;
 use std::{fs, str};
 
-/// The real folder. A name is a path, taken from the folder in which the program was called. It does not
-/// tell what it holds.
+/// The real folder. A name is a path, taken from the folder in which the program was called; a name that is
+/// no text is that of no file. It does not tell what it holds.
 #[derive(Drop)]
 pub struct DiskFolder<'a, R: Files> {
     rt: &'a R,
@@ -17,9 +18,37 @@ pub struct DiskFolder<'a, R: Files> {
     misses: u64,
 }
 
+impl<'a, R: Files> Model for DiskFolder<'a, R> {
+    ghost use Rattle.std.specs.Prelude.{None, [], is_some};
+    ghost use Rattle.rel_io.specs.Codes.{folder_code};
+    ghost use Rattle.rel_io.specs.FolderState.{FolderState};
+
+    ghost Value = { FolderState };
+
+    ghost coded = { folder_code };
+
+    ghost view = { λ disk. record {
+      holds = None;
+      read_faults = disk.read_faults;
+      write_faults = disk.write_faults;
+      misses = disk.misses;
+      is_open = is_some disk.file;
+      opened = record { name = []; place = 0 };
+    } };
+}
+
 impl<'a, R: Files> DiskFolder<'a, R> {
-    /// The folder, with no file open.
-    pub fn new(rt: &'a R) -> DiskFolder<'a, R> {
+    /// The folder, with no file open and nothing counted.
+    pub fn new(rt: &'a R) -> DiskFolder<'a, R>
+        ensures { result ≡ record {
+          holds = None;
+          read_faults = 0;
+          write_faults = 0;
+          misses = 0;
+          is_open = false;
+          opened = record { name = []; place = 0 };
+        } }
+    {
         DiskFolder {
             rt,
             file: None,
@@ -31,34 +60,22 @@ impl<'a, R: Files> DiskFolder<'a, R> {
 }
 
 impl<R: Files> Folder for DiskFolder<'_, R> {
-    ghost state = { λ disk. record {
-      holds = None;
-      read_faults = disk.read_faults;
-      write_faults = disk.write_faults;
-      misses = disk.misses;
-      is_open = is_some disk.file;
-      opened = record { name = []; place = 0 };
-    } };
+    ghost state = { λ disk. disk };
 
     fn open_file(&mut self, name: &[u8]) -> Opened {
         self.file = None;
-        let Ok(path) = str::from_utf8(name) else {
-            self.read_faults = self.read_faults.saturating_add(1);
-            return Opened::Failed;
-        };
-        match fs::open(self.rt, path) {
+        match open_path(self.rt, name) {
             Ok(file) => {
                 self.file = Some(file);
                 Opened::Ready
             }
-            Err(error) => {
-                if error.kind() == ErrorKind::NotFound {
-                    self.misses = self.misses.saturating_add(1);
-                    Opened::Missing
-                } else {
-                    self.read_faults = self.read_faults.saturating_add(1);
-                    Opened::Failed
-                }
+            Err(ErrorKind::NotFound) => {
+                self.misses = self.misses.saturating_add(1);
+                Opened::Missing
+            }
+            Err(_) => {
+                self.read_faults = self.read_faults.saturating_add(1);
+                Opened::Failed
             }
         }
     }
@@ -84,6 +101,12 @@ impl<R: Files> Folder for DiskFolder<'_, R> {
         self.write_faults = self.write_faults.saturating_add(1);
         Err(PutFault::Failed)
     }
+}
+
+/// Opens a file for reading.
+fn open_path<R: Files>(rt: &R, name: &[u8]) -> Result<R::File, ErrorKind> {
+    let path = str::from_utf8(name).map_err(|_| ErrorKind::NotFound)?;
+    fs::open(rt, path).map_err(|error| error.kind())
 }
 
 /// Writes a file whole, and says whether that went well.

@@ -45,3 +45,6 @@ fn status_without_words(error: io::Error) -> u8 {
         _ => BAD_WORDS,
     }
 }
+
+#[cfg(test)]
+mod tests;

@@ -1,9 +1,9 @@
 use Rattle.std.proofs.Common.{◌≡◌, Option, Some, None, MatchOption, ℕ, List, sym}
-use Rattle.rel_io.specs.MemFolder.{IsAbsent, IsFoundAt, place_of}
+use Rattle.rel_io.specs.FileList.{FileList, IsAbsent, IsFoundAt, place_of}
 use Rattle.rel_io.proofs.Files.{place_of-absent, place_of-found}
 use Rattle.rel_io.proofs.mem_folder.find_file.Goals as goal
 
-tells : (files : List (List ℕ × List ℕ)) (name : List ℕ) (r : Option ℕ) → place_of name files ≡ r → MatchOption r (IsAbsent files name) (IsFoundAt files name)
+tells : (files : FileList) (name : List ℕ) (r : Option ℕ) → place_of name files ≡ r → MatchOption r (IsAbsent files name) (IsFoundAt files name)
 tells files name None e = place_of-absent files name e
 tells files name (Some at) e = place_of-found files name at e
 

@@ -1,6 +1,6 @@
 use Rattle.std.proofs.Common.{◌≡◌, ℕ, List, Option, Some, None, is_some, Bor, refl, sym, ap, ◌∙◌, arith}
 use Rattle.std.specs.Option.{option_copied, option_or}
-use Rattle.release_chain.specs.Header.{is_built_where}
+use Rattle.release_chain.specs.Header.{is_built_if}
 use Rattle.release_chain.proofs.HeaderLemmas.{header_goes_on, header_refused}
 use Rattle.release_chain.proofs.header.read_header.Goals as goal
 
@@ -15,10 +15,10 @@ copied-or (Some a) b = refl
 pub returns-then-not-is_built : goal.returns-then-not-is_built
 returns-then-not-is_built c =
     header_refused _ _ c.split_line.result.1.now _ _ _ c.loop-rest.invariant c.split_line.ensures.lines
-    (ap (λ b. is_built_where b c.split_line.result.0.now) (is_some-copied c.loop-rest.name ∙ sym c.is_some.ensures) ∙ sym c.is_built.ensures ∙ c.if-not-is_built.true)
+    (ap (λ b. is_built_if b c.split_line.result.0.now) (is_some-copied c.loop-rest.name ∙ sym c.is_some.ensures) ∙ sym c.is_built.ensures ∙ c.if-not-is_built.true)
 
 pub loop-rest-preserved : goal.loop-rest-preserved
 loop-rest-preserved c =
     rw (c.or-name.ensures, copied-or, c.name_in.ensures)
     (header_goes_on _ _ _ _ _ _ c.loop-rest.invariant c.split_line.ensures.lines (omega arith)
-    (ap (λ b. is_built_where b c.split_line.result.0.now) (is_some-copied c.loop-rest.name ∙ sym c.is_some.ensures) ∙ sym c.is_built.ensures ∙ c.if-not-is_built.false))
+    (ap (λ b. is_built_if b c.split_line.result.0.now) (is_some-copied c.loop-rest.name ∙ sym c.is_some.ensures) ∙ sym c.is_built.ensures ∙ c.if-not-is_built.false))

@@ -1,8 +1,9 @@
 use Rattle.std.proofs.Common.{◌≡◌, ◌==◌, ℕ, [], slice_index_or, length, false, true, refl, eq-eqb, arith}
 use Rattle.std.proofs.lemmas.Grind.{common_steps}
 use Rattle.std.specs.Option.{unwrap_or}
+use Rattle.rel_io.specs.FileList.{IsOpenAt, bytes_at}
 use Rattle.rel_io.specs.FolderState.{Position}
-use Rattle.rel_io.specs.MemFolder.{MemFolderState, fails, next_count, read_answer, IsOpenAt}
+use Rattle.rel_io.specs.MemFolder.{MemFolderState, fails, next_count, read_answer}
 use Rattle.rel_io.specs.declared.folder.Got.TheVariants as got
 use Rattle.rel_io.proofs.mem_folder.MemFolderFolder.read.Goals as goal
 
@@ -14,6 +15,6 @@ pub returns-then-count-eq0-clause-answer : goal.returns-then-count-eq0-clause-an
 returns-then-count-eq0-clause-answer c =
     let is_open : IsOpenAt c.self.inside.files.items c.unwrap-at.result = c.self.invariant.1 _ c.unwrap-at.ensures in
     at_end c.args.self.now (unwrap_or c.args.self.now.opened (record { name = []; place = 0 })) (length c.args.into.now)
-      (rw (← c.self.view_is) (cc))
-      (let content : c.content-file.result.now ≡ (slice_index_or c.self.inside.files.items c.unwrap-at.result.0 ([], [])).1 = rw c.deref-2.ensures.value at c.content-file.ensures in
-       rw (← c.self.view_is, c.unwrap-at.ensures, is_open.1, ← content) (grind (arith, common_steps, c.copy_front-count.ensures.count, c.if-count-eq0.true)))
+    (rw (← c.self.view_is) (cc))
+    (let content : c.content-file.result.now ≡ bytes_at c.self.inside.files.items c.unwrap-at.result.0 = rw c.deref-2.ensures.value at c.content-file.ensures in
+    rw (← c.self.view_is, c.unwrap-at.ensures, is_open.1, ← content) (grind (arith, common_steps, c.copy_front-count.ensures.count, c.if-count-eq0.true)))

@@ -1,0 +1,104 @@
+//! Copies, keys, a type that leads back to itself, and the outside in memory, each once.
+use crate::{
+    Boxed, Bytes, Dup, Folder, Got, Iri, Items, MemFolder, MemSink, NoMemory, Opened, PutFault,
+    Sink, SinkFailed,
+};
+use std::alloc::Global;
+use std::collections::{BTreeMap, HashSet};
+use std::test::Fail;
+
+/// A tree of lists and boxes, as class expressions are.
+#[derive(Debug, PartialEq, Eq, Hash, Drop)]
+enum Tree {
+    Leaf(Bytes),
+    Not(Boxed<Tree>),
+    And(Items<Tree>),
+}
+
+fn bytes(alloc: Global, text: &str) -> Result<Bytes, NoMemory> {
+    Ok(Bytes::from_vec(Vec::from_slice(alloc, text.as_bytes())?))
+}
+
+fn iri(alloc: Global, text: &str) -> Result<Iri, NoMemory> {
+    Ok(Iri::from_vec(Vec::from_slice(alloc, text.as_bytes())?))
+}
+
+/// And(leaf, Not(leaf))
+fn leaf_and_not(alloc: Global, text: &str) -> Result<Tree, NoMemory> {
+    let mut operands = Vec::new(alloc);
+    operands.push(Tree::Leaf(bytes(alloc, text)?))?;
+    operands.push(Tree::Not(Boxed::new(alloc, Tree::Leaf(bytes(alloc, text)?))?))?;
+    Ok(Tree::And(Items::from_vec(operands)))
+}
+
+#[test]
+fn copies_are_equal(rt: HostRuntime) -> Result<(), Fail> {
+    let alloc = rt.alloc();
+    let pair = (bytes(alloc, "a b")?, 7u32);
+    assert_eq!(rt; pair.copy(alloc)?, pair);
+    let triple = (true, iri(alloc, "http://a.b/c")?, Some(9u64));
+    assert_eq!(rt; triple.copy(alloc)?, triple);
+    let boxed = Boxed::new(alloc, pair)?;
+    assert_eq!(rt; boxed.copy(alloc)?, boxed);
+    let mut items = Vec::new(alloc);
+    items.push(bytes(alloc, "x")?)?;
+    items.push(bytes(alloc, "")?)?;
+    let items = Items::from_vec(items);
+    assert_eq!(rt; items.copy(alloc)?, items);
+    Ok(())
+}
+
+#[test]
+fn trees_compare_by_value(rt: HostRuntime) -> Result<(), Fail> {
+    let alloc = rt.alloc();
+    assert!(rt; leaf_and_not(alloc, "x")? == leaf_and_not(alloc, "x")?);
+    assert!(rt; leaf_and_not(alloc, "x")? != leaf_and_not(alloc, "y")?);
+    Ok(())
+}
+
+#[test]
+fn bytes_and_iris_are_keys(rt: HostRuntime) -> Result<(), Fail> {
+    let alloc = rt.alloc();
+    let mut sorted = BTreeMap::new(alloc);
+    for text in ["b", "", "a!", "a"] {
+        sorted.insert(bytes(alloc, text)?, text.len())?;
+    }
+    let lengths: Vec<usize> = sorted.values().copied().collect(alloc)?;
+    assert_eq!(rt; lengths.as_slice(), [0, 1, 2, 1].as_slice());
+    let mut seen = HashSet::new(alloc);
+    assert!(rt; seen.insert(iri(alloc, "http://a.b/c")?)?);
+    assert!(rt; !seen.insert(iri(alloc, "http://a.b/c")?)?);
+    Ok(())
+}
+
+#[test]
+fn a_folder_in_memory_fails_where_it_is_told(rt: HostRuntime) -> Result<(), Fail> {
+    let alloc = rt.alloc();
+    let mut files = Vec::new(alloc);
+    files.push((bytes(alloc, "a")?, bytes(alloc, "12345")?))?;
+    let failing = Vec::from_slice(alloc, &[4, 5])?;
+    let mut folder = MemFolder::new(alloc, files, 2, failing);
+    let mut buffer = [0u8; 3];
+    assert_eq!(rt; folder.open_file(b"b"), Opened::Missing);
+    assert_eq!(rt; folder.put(b"b", b"new"), Ok(()));
+    assert_eq!(rt; folder.open_file(b"a"), Opened::Ready);
+    assert_eq!(rt; folder.read(&mut buffer), Got::Bytes(2));
+    assert_eq!(rt; folder.read(&mut buffer), Got::Failed);
+    assert_eq!(rt; folder.put(b"a", b"lost"), Err(PutFault::Failed));
+    assert_eq!(rt; folder.put(b"b", b"newer"), Ok(()));
+    assert_eq!(rt; folder.held(b"a").unwrap_or(b"none"), b"12345".as_slice());
+    assert_eq!(rt; folder.held(b"b").unwrap_or(b"none"), b"newer".as_slice());
+    Ok(())
+}
+
+#[test]
+fn a_sink_in_memory_fails_where_it_is_told(rt: HostRuntime) -> Result<(), Fail> {
+    let alloc = rt.alloc();
+    let mut sink = MemSink::new(alloc, 4, Vec::from_slice(alloc, &[1])?)?;
+    assert_eq!(rt; sink.write_all(b"ab"), Ok(()));
+    assert_eq!(rt; sink.write_all(b""), Err(SinkFailed));
+    assert_eq!(rt; sink.write_all(b"cde"), Err(SinkFailed));
+    assert_eq!(rt; sink.write_all(b"cd"), Ok(()));
+    assert_eq!(rt; sink.bytes(), b"abcd".as_slice());
+    Ok(())
+}

@@ -1,0 +1,225 @@
+//! Whole runs over a folder and sinks in memory.
+use crate::{Ended, Fault, FileFault, WordKind, read_file, release};
+use rel_io::{Bytes, MemFolder, MemSink, NoMemory};
+use std::alloc::Global;
+use std::test::Fail;
+
+/// The words of the one chain.
+const CHAIN: [&str; 6] = ["merge", "--input", "a.obo", "convert", "--output", "b.obo"];
+
+fn bytes(alloc: Global, text: &str) -> Result<Bytes, NoMemory> {
+    Ok(Bytes::from_vec(Vec::from_slice(alloc, text.as_bytes())?))
+}
+
+fn words(alloc: Global, texts: &[&str]) -> Result<Vec<String>, NoMemory> {
+    let mut words = Vec::new(alloc);
+    for text in texts {
+        words.push(String::from_str(alloc, text)?)?;
+    }
+    Ok(words)
+}
+
+/// A folder that holds `a.obo` with this text, gives pieces of three bytes, and fails at these calls.
+fn folder_of(alloc: Global, text: &str, failing: &[u64]) -> Result<MemFolder, NoMemory> {
+    let mut files = Vec::new(alloc);
+    files.push((bytes(alloc, "a.obo")?, bytes(alloc, text)?))?;
+    let failing = Vec::from_slice(alloc, failing)?;
+    Ok(MemFolder::new(alloc, files, 3, failing))
+}
+
+/// A run of these words in a folder.
+fn run(alloc: Global, texts: &[&str], folder: &mut MemFolder) -> Result<Ended, NoMemory> {
+    let words = words(alloc, texts)?;
+    let mut out = MemSink::new(alloc, 100, Vec::new(alloc))?;
+    let mut err = MemSink::new(alloc, 100, Vec::new(alloc))?;
+    Ok(release(alloc, &words, folder, &mut out, &mut err))
+}
+
+#[test]
+fn headers_are_written(rt: HostRuntime) -> Result<(), Fail> {
+    let alloc = rt.alloc();
+    let cases = [
+        ("", "format-version: 1.4\n"),
+        ("\n\n", "format-version: 1.4\n"),
+        (
+            "format-version: 1.2\nontology: go-basic_2\n",
+            "format-version: 1.4\nontology: go-basic_2\n",
+        ),
+        (
+            "ontology: ex\n\nformat-version: 9 : ~\nformat-version: ",
+            "format-version: 1.4\nontology: ex\n",
+        ),
+    ];
+    for (text, want) in cases {
+        let mut folder = folder_of(alloc, text, &[])?;
+        let ended = run(alloc, &CHAIN, &mut folder)?;
+        assert_eq!(rt; ended.fault, None);
+        assert_eq!(rt; ended.status, 0);
+        assert_eq!(rt; folder.held(b"b.obo").unwrap_or(b"none"), want.as_bytes());
+        assert_eq!(rt; folder.held(b"a.obo").unwrap_or(b"none"), text.as_bytes());
+    }
+    Ok(())
+}
+
+#[test]
+fn the_least_line_that_is_not_built_is_refused(rt: HostRuntime) -> Result<(), Fail> {
+    let alloc = rt.alloc();
+    let cases = [
+        ("[Term]\nid: EX:1\ndef: \"x\" []\n", 1),
+        ("ontology: ex\n\nontology: ex\n", 3),
+        ("ontology: ex\r\n", 1),
+        ("\n\n ", 3),
+        ("ontology: ", 1),
+        ("ontology: a b\nname: x\n", 1),
+        ("format-version: 1.2\nformat-version:1.2\n", 2),
+        ("format-version: \t\n", 1),
+        ("\u{feff}ontology: ex\n", 1),
+        ("\nformat-version: \0", 2),
+    ];
+    for (text, line) in cases {
+        let mut folder = folder_of(alloc, text, &[])?;
+        let ended = run(alloc, &CHAIN, &mut folder)?;
+        let file = bytes(alloc, "a.obo")?;
+        assert_eq!(rt; ended.fault, Some(Fault::LineNotBuilt { file, line }));
+        assert_eq!(rt; ended.status, 1);
+        assert_eq!(rt; folder.held(b"b.obo"), None);
+    }
+    Ok(())
+}
+
+#[test]
+fn the_first_bad_word_is_refused(rt: HostRuntime) -> Result<(), Fail> {
+    let alloc = rt.alloc();
+    let cases: [(&[&str], u32, WordKind); 14] = [
+        (&[], 0, WordKind::NoValue),
+        (&["Merge"], 0, WordKind::UnknownWord),
+        (&["merge"], 1, WordKind::NoValue),
+        (&["merge", "a.obo"], 1, WordKind::UnknownWord),
+        (&["merge", "--input"], 2, WordKind::NoValue),
+        (&["merge", "--input", ""], 2, WordKind::BadValue),
+        (&["merge", "--input", "convert"], 3, WordKind::NoValue),
+        (
+            &["merge", "--input", "a.obo", "reason"],
+            3,
+            WordKind::UnknownWord,
+        ),
+        (
+            &["merge", "--input", "a.obo", "convert", "-o"],
+            4,
+            WordKind::UnknownWord,
+        ),
+        (
+            &["merge", "--input", "a.obo", "convert", "--output"],
+            5,
+            WordKind::NoValue,
+        ),
+        (
+            &["merge", "--input", "a.obo", "convert", "--output", ""],
+            5,
+            WordKind::BadValue,
+        ),
+        (
+            &["merge", "--input", "a.obo", "convert", "--output", "b.OBO"],
+            5,
+            WordKind::NoFormat,
+        ),
+        (
+            &["merge", "--input", "a.obo", "convert", "--output", "a.obo"],
+            5,
+            WordKind::OutputIsInput,
+        ),
+        (
+            &[
+                "merge", "--input", "a.obo", "convert", "--output", "b.obo", "",
+            ],
+            6,
+            WordKind::UnknownWord,
+        ),
+    ];
+    for (texts, index, kind) in cases {
+        let mut folder = folder_of(alloc, "", &[])?;
+        let ended = run(alloc, texts, &mut folder)?;
+        assert_eq!(rt; ended.fault, Some(Fault::BadWord { index, kind }));
+        assert_eq!(rt; ended.status, 2);
+    }
+    Ok(())
+}
+
+#[test]
+fn what_failed_outside_is_named(rt: HostRuntime) -> Result<(), Fail> {
+    let alloc = rt.alloc();
+    // Of twelve bytes in pieces of three: the open is call 0, the reads are 1 to 5, and the put is 6.
+    for failing in [0, 1, 3, 5] {
+        let mut folder = folder_of(alloc, "ontology: ex", &[failing])?;
+        let ended = run(alloc, &CHAIN, &mut folder)?;
+        let name = bytes(alloc, "a.obo")?;
+        assert_eq!(rt; ended.fault, Some(Fault::ReadFault { name }));
+        assert_eq!(rt; ended.status, 3);
+        assert_eq!(rt; folder.held(b"b.obo"), None);
+    }
+    let mut folder = folder_of(alloc, "ontology: ex", &[6])?;
+    let ended = run(alloc, &CHAIN, &mut folder)?;
+    let name = bytes(alloc, "b.obo")?;
+    assert_eq!(rt; ended.fault, Some(Fault::WriteFault { name }));
+    assert_eq!(rt; ended.status, 3);
+    assert_eq!(rt;
+        folder.held(b"a.obo").unwrap_or(b"none"),
+        b"ontology: ex".as_slice()
+    );
+    Ok(())
+}
+
+#[test]
+fn an_input_that_is_not_held_is_missing(rt: HostRuntime) -> Result<(), Fail> {
+    let alloc = rt.alloc();
+    let mut folder = folder_of(alloc, "", &[])?;
+    let texts = ["merge", "--input", "A.obo", "convert", "--output", "b.obo"];
+    let ended = run(alloc, &texts, &mut folder)?;
+    let name = bytes(alloc, "A.obo")?;
+    assert_eq!(rt; ended.fault, Some(Fault::MissingInput { name }));
+    assert_eq!(rt; ended.status, 1);
+    assert_eq!(rt; folder.held(b"b.obo"), None);
+    Ok(())
+}
+
+#[test]
+fn a_file_is_read_up_to_its_limit(rt: HostRuntime) -> Result<(), Fail> {
+    let alloc = rt.alloc();
+    let name = bytes(alloc, "a.obo")?;
+    let mut folder = folder_of(alloc, "123456", &[])?;
+    assert_eq!(rt;
+        read_file(alloc, &mut folder, &name, 5),
+        Err(FileFault::TooManyBytes)
+    );
+    let mut folder = folder_of(alloc, "12345", &[])?;
+    let whole = bytes(alloc, "12345")?;
+    assert_eq!(rt; read_file(alloc, &mut folder, &name, 5), Ok(whole));
+    Ok(())
+}
+
+#[test]
+fn reading_stops_behind_the_limit(rt: HostRuntime) -> Result<(), Fail> {
+    let alloc = rt.alloc();
+    // The open is call 0; the second piece of three bytes goes past the limit, so no call 3 is made.
+    let name = bytes(alloc, "a.obo")?;
+    let mut folder = folder_of(alloc, "1234567", &[3])?;
+    let read = read_file(alloc, &mut folder, &name, 5);
+    assert_eq!(rt; read, Err(FileFault::TooManyBytes));
+    Ok(())
+}
+
+#[test]
+fn a_read_has_room_for_65536_bytes(rt: HostRuntime) -> Result<(), Fail> {
+    let alloc = rt.alloc();
+    // Of 65,537 bytes in pieces as large as the room, the open is call 0, two reads give them, the third is
+    // at the end, and the put is call 4.
+    let mut text = Vec::from_slice(alloc, b"format-version: ")?;
+    text.resize(65537, b'x')?;
+    let mut files = Vec::new(alloc);
+    files.push((bytes(alloc, "a.obo")?, Bytes::from_vec(text)))?;
+    let mut folder = MemFolder::new(alloc, files, 100_000, Vec::from_slice(alloc, &[4])?);
+    let ended = run(alloc, &CHAIN, &mut folder)?;
+    let name = bytes(alloc, "b.obo")?;
+    assert_eq!(rt; ended.fault, Some(Fault::WriteFault { name }));
+    Ok(())
+}
