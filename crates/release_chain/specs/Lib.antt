@@ -1,6 +1,7 @@
 pub mod Ending
 pub mod Fault
 pub mod Header
+pub mod Laws
 pub mod Lines
 pub mod ReadFile
 pub mod Release

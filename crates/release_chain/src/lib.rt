@@ -7,12 +7,14 @@ mod chain;
 mod fault;
 mod header;
 mod input;
+mod laws;
 mod lines;
 mod program;
 mod words;
 
 pub use fault::{Ended, Fault, WordKind};
 pub use input::{FileFault, read_file};
+pub use laws::{least_line_is_refused, lines_are_written};
 pub use program::release;
 
 #[cfg(test)]

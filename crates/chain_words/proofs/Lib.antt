@@ -1,0 +1,9 @@
+pub mod Accepted
+pub mod ListLemmas
+pub mod NumberLemmas
+pub mod ScanLemmas
+pub mod Names
+pub mod Apart
+pub mod Same
+pub mod Order
+pub mod Formats

@@ -1,0 +1,6 @@
+use Rattle.std.proofs.Common.{◌≡◌, take, drop}
+use Rattle.chain_words.specs.Clash.{clash_from, first_clash}
+use Rattle.chain_words.proofs.clash.first_clash.Given as goal
+
+abbrev pub invariant-loop-index : goal.invariant-loop-index
+invariant-loop-index l = clash_from l.settings (take l.index l.settings) (drop l.index l.settings) ≡ first_clash l.settings

@@ -1,0 +1,10 @@
+pub mod Word
+pub mod Table
+pub mod Choices
+pub mod Number
+pub mod Reading
+pub mod Step
+pub mod Clash
+pub mod Scan
+pub mod Chain
+pub mod Laws

@@ -1,0 +1,204 @@
+//! What the words read so far say, and what one more word adds.
+ghost use Rattle.std.specs.Prelude.{◌≡◌, ◌<◌, ◌^◌};
+ghost use Rattle.chain_words.specs.Reading.{Answers};
+ghost use Rattle.chain_words.specs.Scan.{at_option, at_value, at_command, at_place, at_word, begun, turn, at_end, tested, command_of, rule_of};
+ghost use Rattle.chain_words.specs.Clash.{first_clash};
+
+use crate::choices::accepts;
+use crate::clash::first_clash;
+use crate::lists::{joined, pushed};
+use crate::phrase::{Phrase, Setting, setting_of};
+use crate::step::ended;
+use crate::table::{CommandWord, OptionWord, Rule, command_of, rule_of};
+use crate::{Chain, Command, WordFault, WordKind};
+use rel_io::{Bytes, Items};
+use std::alloc::Global;
+
+/// The most commands that a chain has, `merge` among them.
+const MOST_COMMANDS: usize = 64;
+
+/// An option whose value comes next. `at` is the index of the option's word.
+#[derive(Clone, Copy, Debug)]
+pub struct Asked {
+    pub option: OptionWord,
+    pub at: u32,
+}
+
+/// What the words so far say: the chain of the steps that have ended, their settings in order, and the step
+/// that is being read.
+#[derive(Debug, Drop)]
+pub struct Draft {
+    pub chain: Chain,
+    pub earlier: Items<Setting>,
+    pub phrase: Phrase,
+    pub asked: Option<Asked>,
+}
+
+/// This word is bad.
+fn bad(index: u32, kind: WordKind) -> WordFault
+    ensures { result ≡ WordFault.BadWord index kind }
+{
+    WordFault::BadWord { index, kind }
+}
+
+/// An option word: its value comes next.
+fn at_option(draft: Draft, rule: Rule, at: u32) -> Result<Draft, WordFault>
+    ensures { Answers (at_option draft rule at) result }
+{
+    let is_given = setting_of(rule.option, draft.phrase.settings.as_slice()).is_some();
+    if rule.times.stands_once() && is_given {
+        return Err(bad(at, WordKind::Repeated));
+    }
+    let Draft {
+        chain,
+        earlier,
+        phrase,
+        asked: _,
+    } = draft;
+    Ok(Draft {
+        chain,
+        earlier,
+        phrase,
+        asked: Some(Asked {
+            option: rule.option,
+            at,
+        }),
+    })
+}
+
+/// The value of an option.
+fn at_value(
+    alloc: Global,
+    draft: Draft,
+    option: OptionWord,
+    at: u32,
+    word: &[u8],
+) -> Result<Draft, WordFault>
+    ensures { Answers (at_value draft option at word.now) result }
+{
+    if !accepts(option, word) {
+        return Err(bad(at, WordKind::BadValue));
+    }
+    let value = Bytes::from_vec(Vec::from_slice(alloc, word)?);
+    let Draft {
+        chain,
+        earlier,
+        phrase,
+        asked: _,
+    } = draft;
+    let Phrase {
+        command,
+        at: begin,
+        settings,
+    } = phrase;
+    let settings = pushed(settings, Setting { option, at, value })?;
+    Ok(Draft {
+        chain,
+        earlier,
+        phrase: Phrase {
+            command,
+            at: begin,
+            settings,
+        },
+        asked: None,
+    })
+}
+
+/// A step of this command begins, behind the steps of a chain.
+fn begun(
+    alloc: Global,
+    earlier: Items<Setting>,
+    command: CommandWord,
+    at: u32,
+    chain: Chain,
+) -> Result<Draft, WordFault>
+    ensures { Answers (begun earlier command at chain) result }
+{
+    if command.stands_first() {
+        return Err(bad(at, WordKind::NotHere));
+    }
+    if chain.steps.as_slice().len() >= MOST_COMMANDS - 1 {
+        return Err(bad(at, WordKind::TooMany));
+    }
+    Ok(Draft {
+        chain,
+        earlier,
+        phrase: Phrase {
+            command,
+            at,
+            settings: Items::from_vec(Vec::new(alloc)),
+        },
+        asked: None,
+    })
+}
+
+/// A command word: the step before it ends.
+fn at_command(
+    alloc: Global,
+    draft: Draft,
+    command: CommandWord,
+    at: u32,
+) -> Result<Draft, WordFault>
+    ensures { Answers (at_command draft command at) result }
+{
+    let Draft {
+        chain,
+        earlier,
+        phrase,
+        asked: _,
+    } = draft;
+    let chain = ended(alloc, chain, &phrase)?;
+    let earlier = joined(earlier, phrase.settings)?;
+    begun(alloc, earlier, command, at, chain)
+}
+
+/// A word that stands for an option, else for a command.
+fn at_word(alloc: Global, draft: Draft, at: u32, word: &[u8]) -> Result<Draft, WordFault>
+    ensures { Answers (at_word (rule_of draft.phrase.command word.now) (command_of word.now) draft at) result }
+{
+    match rule_of(draft.phrase.command, word) {
+        Some(rule) => at_option(draft, rule, at),
+        None => match command_of(word) {
+            Some(command) => at_command(alloc, draft, command, at),
+            None => Err(bad(at, WordKind::UnknownWord)),
+        },
+    }
+}
+
+/// One more word.
+pub fn turn(alloc: Global, draft: Draft, at: u32, word: &[u8]) -> Result<Draft, WordFault>
+    ensures { Answers (turn draft at word.now) result }
+{
+    match draft.asked {
+        Some(asked) => at_value(alloc, draft, asked.option, at, word),
+        None => at_word(alloc, draft, at, word),
+    }
+}
+
+/// A chain whose outputs have names of their own.
+fn tested(chain: Chain, settings: &[Setting]) -> Result<Command, WordFault>
+    ensures { Answers (tested chain (first_clash settings.now)) result }
+{
+    match first_clash(settings) {
+        None => Ok(Command::Run(chain)),
+        Some(fault) => Err(fault),
+    }
+}
+
+/// Behind the last word: an option has no value, or the last step ends.
+pub fn at_end(alloc: Global, draft: Draft) -> Result<Command, WordFault>
+    ensures { Answers (at_end draft.asked draft) result }
+{
+    let Draft {
+        chain,
+        earlier,
+        phrase,
+        asked,
+    } = draft;
+    if let Some(asked) = asked {
+        return Err(bad(asked.at, WordKind::NoValue));
+    }
+    let chain = ended(alloc, chain, &phrase)?;
+    let settings = joined(earlier, phrase.settings)?;
+    tested(chain, settings.as_slice())
+}

@@ -1,0 +1,34 @@
+//! What holds of all words that are accepted. Each law is the contract of a function that does nothing.
+ghost use Rattle.std.specs.Prelude.{◌≡◌, Ok, map, string_bytes};
+ghost use Rattle.chain_words.specs.Chain.{chain};
+ghost use Rattle.chain_words.specs.Laws.{BeginsWithMerge, FormatsFollowNames, NoOutputIsInput, NoOutputTwice, OptionsChangePlaces};
+ghost use Rattle.chain_words.specs.declared.command.Command.TheVariants.{Run};
+
+use crate::Chain;
+
+/// In an accepted chain no output has the name of a file that is read, and no two outputs have one name: what a
+/// step writes is neither lost nor read back.
+pub fn outputs_stand_apart(words: &Vec<String>, accepted: &Chain)
+    requires { chain (map string_bytes words.now.items) ≡ Ok (Run accepted.now) }
+    ensures no_input { NoOutputIsInput accepted.now }
+    ensures no_second { NoOutputTwice accepted.now }
+{}
+
+/// In an accepted chain each output has a format: the one that its name tells, unless its step is a `convert`,
+/// which may name another, and which alone may ask for no check.
+pub fn formats_follow_names(words: &Vec<String>, accepted: &Chain)
+    requires { chain (map string_bytes words.now.items) ≡ Ok (Run accepted.now) }
+    ensures { FormatsFollowNames accepted.now }
+{}
+
+/// The first step of an accepted chain is `merge`. No later one is: `Step` has no such step.
+pub fn merge_is_first(words: &Vec<String>, accepted: &Chain)
+    requires { chain (map string_bytes words.now.items) ≡ Ok (Run accepted.now) }
+    ensures { BeginsWithMerge (map string_bytes words.now.items) }
+{}
+
+/// Where two neighbouring options of a step are not the same, they may change places: the words are accepted as
+/// before, and mean the same. So the order of a step's options is free, where none is repeated.
+pub fn options_change_places()
+    ensures { OptionsChangePlaces }
+{}

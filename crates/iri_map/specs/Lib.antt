@@ -1,0 +1,7 @@
+pub mod Escape
+pub mod Split
+pub mod Readable
+pub mod Id
+pub mod Candidate
+pub mod Ontology
+pub mod Laws

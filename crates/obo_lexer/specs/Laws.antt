@@ -1,0 +1,38 @@
+-- What the definitions of lines and of feeders amount to.
+use Rattle.std.specs.Prelude.{◌≡◌, ℕ, List, [], ◌∷◌, ◌++◌}
+use Rattle.std.specs.List.{All}
+use Rattle.obo_lexer.specs.declared.line.LineItem.{LineItem}
+use Rattle.obo_lexer.specs.Feeding.{Feeder, after_end, after_piece, fresh, with_first}
+use Rattle.obo_lexer.specs.Items.{lines_of, numbered}
+use Rattle.obo_lexer.specs.Lines.{HasNoLineFeed, ended_lines, rest_of, without_mark, written}
+
+-- the ended lines and the rest, written one after the other, are the bytes, and none of them has an LF
+pub record LinesAreWritten (bytes : List ℕ) : Type 0 where
+  pub joined : written (ended_lines bytes) (rest_of bytes) ≡ bytes
+  pub lines : All HasNoLineFeed (ended_lines bytes)
+  pub rest : HasNoLineFeed (rest_of bytes)
+
+-- no other lines and rest without LF are written as these bytes
+abbrev pub LinesAreOnly : List ℕ → Type 0
+LinesAreOnly bytes =
+    (lines : List (List ℕ)) (rest : List ℕ) → All HasNoLineFeed lines → HasNoLineFeed rest → written lines rest ≡ bytes → (lines ≡ ended_lines bytes) × (rest ≡ rest_of bytes)
+
+-- feeding a piece and then another is feeding both together
+abbrev pub PiecesJoin : Type 0
+PiecesJoin = (f : Feeder) (x y : List ℕ) → after_piece (after_piece f x) y ≡ after_piece f (x ++ y)
+
+-- a feeder to which these bytes were fed, in some pieces, and from which these lines were taken, at any time
+pub data Run (limit : ℕ) : List ℕ → List LineItem → Feeder → Type 0 where
+  starting : Run limit [] [] (fresh limit)
+  feeding : (bytes : List ℕ) (taken : List LineItem) (f : Feeder) (piece : List ℕ) → Run limit bytes taken f → Run limit (bytes ++ piece) taken (after_piece f piece)
+  taking : (bytes : List ℕ) (taken : List LineItem) (line : LineItem) (f : Feeder) → Run limit bytes taken (with_first line f) → Run limit bytes (taken ++ line ∷ []) f
+
+-- however the bytes were cut: the lines taken, followed by those that wait, are the ended lines of the bytes
+-- fed, and after the end of the file they are all its lines
+pub record RunGivesLines (limit : ℕ) (bytes : List ℕ) (taken : List LineItem) (f : Feeder) : Type 0 where
+  pub ended : taken ++ f.lines.waiting ≡ numbered limit 1 (ended_lines (without_mark bytes))
+  pub all : taken ++ (after_end f).lines.waiting ≡ lines_of limit bytes
+
+abbrev pub RunsGiveLines : Type 0
+RunsGiveLines =
+    (limit : ℕ) (bytes : List ℕ) (taken : List LineItem) (f : Feeder) → Run limit bytes taken f → RunGivesLines limit bytes taken f

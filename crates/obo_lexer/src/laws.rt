@@ -1,0 +1,14 @@
+//! What the definitions of this crate amount to, proved once for all layers above.
+ghost use Rattle.obo_lexer.specs.Laws.{LinesAreOnly, LinesAreWritten, PiecesJoin, RunsGiveLines};
+
+/// Lines and rest are the one way to write the bytes as parts without LF, each but the last with its LF.
+pub fn lines_are_the_parts(bytes: &[u8])
+    ensures written { LinesAreWritten bytes.now }
+    ensures only { LinesAreOnly bytes.now }
+{}
+
+/// How a file is cut into pieces, and when its lines are taken, does not matter.
+pub fn cutting_does_not_matter()
+    ensures pieces { PiecesJoin }
+    ensures runs { RunsGiveLines }
+{}

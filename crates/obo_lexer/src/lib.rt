@@ -1,0 +1,16 @@
+//! The lines of an OBO file as its bytes come in, and the tokens of a line. The layer above feeds the
+//! bytes in pieces of any length and takes numbered lines: whatever the pieces, the lines are those of
+//! the whole file, in order, each with its text or with what keeps it from being one.
+#![tactic(auto)]
+
+mod feeder;
+mod laws;
+mod line;
+#[cfg(test)]
+mod tests;
+mod token;
+
+pub use feeder::LineFeeder;
+pub use laws::{cutting_does_not_matter, lines_are_the_parts};
+pub use line::{LineBody, LineItem};
+pub use token::{Token, TokenKind, tokens, tokens_are_unique};

@@ -1,0 +1,12 @@
+//! The tags of OBO frames: which ones each frame kind has, in the order in which they are printed, and what
+//! value stands behind each. The layer above reads and prints clauses by this table alone.
+#![tactic(auto)]
+
+mod kind;
+mod table;
+mod tag;
+#[cfg(test)]
+mod tests;
+
+pub use kind::{FrameKind, ValueShape};
+pub use tag::{Tag, rank, shape, tag_of};
