@@ -1,5 +1,5 @@
 //! What words ask for, with the answers worked out by hand from the table of commands.
-use crate::{Chain, Command, Format, Method, Output, Step, read_words};
+use crate::{Chain, Command, Format, Method, Output, Step, WordKind, read_words};
 use rel_io::{Bytes, Dup, Items, NoMemory};
 use std::alloc::{AllocError, Global};
 use std::test::Fail;
@@ -184,6 +184,16 @@ fn accepted_words_mean_their_chain(rt: HostRuntime) -> Result<(), Fail> {
     let wanted = full_chain(alloc)?;
     assert_eq!(rt; wanted.copy(alloc)?, wanted);
     assert_eq!(rt; read_words(alloc, &words), Ok(wanted));
+    Ok(())
+}
+
+#[test]
+fn copies_are_equal(rt: HostRuntime) -> Result<(), Fail> {
+    let alloc = rt.alloc();
+    assert_eq!(rt; Method::Top.copy(alloc)?, Method::Top);
+    assert_eq!(rt; Format::Ofn.copy(alloc)?, Format::Ofn);
+    assert_eq!(rt; WordKind::NoValue.copy(alloc)?, WordKind::NoValue);
+    assert_eq!(rt; Step::Relax.copy(alloc)?, Step::Relax);
     Ok(())
 }
 
