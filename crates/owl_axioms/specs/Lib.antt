@@ -1,0 +1,4 @@
+pub mod Ontology
+pub mod Origins
+pub mod Proper
+pub mod Text
