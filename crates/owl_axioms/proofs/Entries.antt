@@ -15,7 +15,7 @@ use Rattle.owl_axioms.specs.declared.body.Axiom.{Axiom}
 use Rattle.owl_axioms.specs.declared.origin.Origin.{Origin}
 use Rattle.owl_axioms.proofs.Same.{same_axiom-true}
 
-abbrev Pairs : Type 0
+abbrev pub Pairs : Type 0
 Pairs = List (Axiom × Origin)
 
 -- the axioms are the keys, and the origins the values
@@ -38,7 +38,7 @@ entries_of-insert (p ∷ pairs) a o =
     ]
 
 -- both parts of a test
-both : (s t : Bool) → (s && t) ≡ true → (s ≡ true) × (t ≡ true)
+pub both : (s t : Bool) → (s && t) ≡ true → (s ≡ true) × (t ≡ true)
 both true t h = (refl, h)
 both false t h = absurd (let e : false ≡ true = h in cc)
 

@@ -1,4 +1,5 @@
 pub mod Adding
 pub mod Entries
+pub mod Keeping
 pub mod ProperAxioms
 pub mod Same

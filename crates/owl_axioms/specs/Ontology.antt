@@ -1,6 +1,6 @@
 -- An ontology as a contract sees it: its name, and its axioms in the order in which they came, each once and
 -- with its least origin.
-use Rattle.std.specs.Prelude.{ℕ, Bool, if◌then◌else◌, List, [], ◌∷◌, Option, Contains, map}
+use Rattle.std.specs.Prelude.{ℕ, Bool, false, if◌then◌else◌, List, [], ◌∷◌, Option, Contains, map}
 use Rattle.std.specs.List.{IsDistinct}
 use Rattle.owl_axioms.specs.Origins.{lesser}
 use Rattle.owl_axioms.specs.contracts.body.AxiomPartialEq.TheImpl as axiom_eq
@@ -12,6 +12,7 @@ pub record Entry : Type 0 where
   pub «axiom» : Axiom
   pub origin : Origin
 
+-- the two of them
 abbrev pub entry_of : Axiom → Origin → Entry
 entry_of a origin = record { «axiom» = a; origin = origin }
 
@@ -43,6 +44,17 @@ add_entry a origin (e ∷ entries) =
     if same_axiom a e.axiom
     then record e { origin = lesser origin e.origin } ∷ entries
     else e ∷ add_entry a origin entries
+
+-- the first flag, or false where there is none
+abbrev pub first_flag : List Bool → Bool
+first_flag [] = false
+first_flag (flag ∷ flags) = flag
+
+-- what stands beside a flag that is true
+abbrev pub flagged : {X : Type 0} → List Bool → List X → List X
+flagged [] xs = []
+flagged (flag ∷ flags) [] = []
+flagged (flag ∷ flags) (x ∷ xs) = if flag then x ∷ flagged flags xs else flagged flags xs
 
 -- no axiom is there twice
 abbrev pub AreDifferent : List Entry → Type 0

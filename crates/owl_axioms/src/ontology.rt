@@ -1,8 +1,8 @@
 //! `Ontology`: a name and a list of proper axioms without repeats, each with its least origin.
-ghost use Rattle.std.specs.Prelude.{◌≡◌, ◌<◌, ◌↔◌, [], Some, IsTrue, IfOk, OnOk, OnErr, length, slice_get};
+ghost use Rattle.std.specs.Prelude.{◌≡◌, ◌<◌, ◌↔◌, [], Some, IsTrue, IfOk, OnOk, OnErr, drop, length, slice_get};
 ghost use Rattle.std.specs.Option.{option_copied, option_map_or};
 ghost use Rattle.indexmap.specs.IndexMap.{IsUnique};
-ghost use Rattle.owl_axioms.specs.Ontology.{AreDifferent, IsHeld, add_entry, axioms_of, origins_of, same_axiom};
+ghost use Rattle.owl_axioms.specs.Ontology.{AreDifferent, IsHeld, add_entry, axioms_of, first_flag, flagged, origins_of, same_axiom};
 ghost use Rattle.owl_axioms.specs.Origins.{lesser};
 ghost use Rattle.owl_axioms.specs.Proper.{AreProper, IsProper};
 
@@ -90,6 +90,27 @@ impl Ontology {
         ensures proper { IsProper result.now }
     {
         self.axioms.get_index(at).unwrap().0
+    }
+
+    /// Keeps the axioms whose flag is true, in their order and with their origins, and drops the others.
+    pub fn keep(&mut self, flags: &Vec<bool>)
+        requires { length flags.now.items ≡ length self.old.entries }
+        ensures { self.new ≡ record self.old { entries = flagged flags.now.items self.old.entries } }
+    {
+        let mut rest = flags.as_slice();
+        self.axioms.retain(
+            |_axiom: &Axiom, origin: &mut Origin| -> bool
+                ensures { (result ≡ first_flag rest.entry.now) × (rest.exit.now ≡ drop 1 rest.entry.now) × (origin.new ≡ origin.old) }
+            {
+                match rest.split_first() {
+                    Some((flag, others)) => {
+                        rest = others;
+                        *flag
+                    }
+                    None => false,
+                }
+            },
+        );
     }
 
     /// Where the axiom at a place comes from.

@@ -78,7 +78,7 @@ fn an_axiom_is_kept_once_with_its_least_origin(rt: HostRuntime) -> Result<(), Fa
     assert!(rt; ontology.holds(&annotated(alloc, 1)?));
     assert!(rt; ontology.holds(&plain(alloc, 1)?));
     assert!(rt; !ontology.holds(&plain(alloc, 3)?));
-    let twin = ontology.copy(alloc)?;
+    let mut twin = ontology.copy(alloc)?;
     assert_eq!(rt; twin.len(), 4);
     assert!(rt; twin.name().is_none());
     for (at, line) in [2u32, 3, 9].into_iter().enumerate() {
@@ -86,5 +86,12 @@ fn an_axiom_is_kept_once_with_its_least_origin(rt: HostRuntime) -> Result<(), Fa
         assert!(rt; has_at(&ontology, at, &axiom, Origin { file: 0, line }));
         assert!(rt; has_at(&twin, at, &axiom, Origin { file: 0, line }));
     }
+    let flags = Vec::from_slice(alloc, &[false, true, false, true])?;
+    if flags.len() == twin.len() {
+        twin.keep(&flags);
+    }
+    assert_eq!(rt; twin.len(), 2);
+    assert!(rt; has_at(&twin, 0, &plain(alloc, 1)?, Origin { file: 0, line: 3 }));
+    assert!(rt; has_at(&twin, 1, &annotated(alloc, 1)?, Origin { file: 0, line: 1 }));
     Ok(())
 }
