@@ -2,7 +2,7 @@
 use Rattle.std.specs.Prelude.{ℕ, Bool, false, not, ◌&&◌, ◌||◌, ◌==◌, nat_eq, length, List, [], ◌∷◌, ◌++◌, codes, if◌then◌else◌, Option, Some, None, unwrap_or}
 use Rattle.std.specs.Char.{is_ascii_alphabetic, is_ascii_alphanumeric, is_ascii_digit}
 use Rattle.std.specs.List.{list_all, starts_with}
-use Rattle.std.specs.Option.{option_map, option_and_then, option_or}
+use Rattle.std.specs.Option.{option_map, option_map_or, option_and_then, option_or}
 use Rattle.iri_map.specs.Escape.{escaped_part, escaped_url}
 use Rattle.iri_map.specs.Split.{Parts, split_at_first}
 
@@ -38,6 +38,10 @@ is_number text = not (length text == 0) && list_all is_ascii_digit text
 -- a prefix and a number
 abbrev pub is_canonical : Parts → Bool
 is_canonical parts = is_prefix parts.0 && is_number parts.1
+
+-- a canonical id, as `EX:0000001`
+unfoldable pub is_canonical_id : List ℕ → Bool
+is_canonical_id id = option_map_or is_canonical (split_at_first colon id) false
 
 -- URL: the id is a URL, and names it
 abbrev pub url_iri : List ℕ → Option (List ℕ)

@@ -67,6 +67,18 @@ pub fn after_base(iri: &[u8]) -> Option<&[u8]>
     after_start(BASE, iri)
 }
 
+/// Whether the id is canonical: a prefix, `:` and a number, as `EX:0000001`. Its IRI is the same in every
+/// ontology.
+#[tactic(auto, unfolding(crate::specs::Id::is_canonical_id))]
+pub fn is_canonical_id(id: &[u8]) -> bool
+    ensures { result ≡ spec.is_canonical_id id.now }
+{
+    match split_at_first(b':', id) {
+        Some((prefix, number)) => is_prefix(prefix) && is_number(number),
+        None => false,
+    }
+}
+
 /// Whether the text is the prefix of a canonical id.
 fn is_prefix(text: &[u8]) -> bool
     ensures { result ≡ spec.is_prefix text.now }

@@ -6,9 +6,11 @@ use Rattle.std.specs.Option.{option_map}
 use Rattle.rel_io.proofs.Options.{at_some, if_some}
 use Rattle.rel_io.specs.Folder.{WriteFailed}
 use Rattle.rel_io.specs.FolderState.{Files, FolderState, NoCountFell}
-use Rattle.release_chain.specs.Header.{header_text, ontology_name, unbuilt_line}
+use Rattle.release_chain.specs.Built.{unbuilt_line}
 use Rattle.release_chain.specs.Ending.{Ends, fault_of_input}
 use Rattle.release_chain.specs.Lines.{Line, lines_of}
+use Rattle.release_chain.specs.Mapping.{ontology_of}
+use Rattle.release_chain.specs.Text.{obo_text}
 use Rattle.release_chain.specs.ReadFile.{ReadsFile}
 use Rattle.release_chain.specs.Release.{EndsAs, StoppedAtOutput, WriteFaultCaused}
 use Rattle.release_chain.specs.Run.{Run, after_outputs, byte_limit, refuses, run, run_chain, run_input, run_lines, writes}
@@ -20,7 +22,7 @@ use Rattle.release_chain.specs.declared.input.FileFault.TheVariants as file
 use Rattle.release_chain.specs.declared.words.Paths.{Paths}
 
 -- the run of an input that is held, short enough, and built
-run_input-built : (paths : Paths) (held : _) (bytes : List ℕ) → held ≡ Some bytes → length bytes ≤ byte_limit → unbuilt_line (lines_of bytes) ≡ None → run_input paths held ≡ writes paths (header_text (ontology_name (lines_of bytes)))
+run_input-built : (paths : Paths) (held : _) (bytes : List ℕ) → held ≡ Some bytes → length bytes ≤ byte_limit → unbuilt_line (lines_of bytes) ≡ None → run_input paths held ≡ writes paths (ontology_of (lines_of bytes))
 run_input-built paths held bytes is short built =
     ap (run_input paths) is
     ∙ ap (λ b. if b then run_lines paths (lines_of bytes) (unbuilt_line (lines_of bytes)) else refuses paths (TooManyBytes paths.input byte_limit)) (le-leb (length bytes) byte_limit short)
@@ -112,10 +114,10 @@ stopped_at_output : (words : List Word) (before mid now : FolderState) (paths : 
     → mid.holds ≡ before.holds → WriteFailed paths.output mid now → run words before.holds ≡ Some r → StoppedAtOutput r before paths.output now
 stopped_at_output words before mid now paths bytes r accepted held short built same failed e =
     let known = known_run words before paths r accepted e in
-    let is : r ≡ writes paths (header_text (ontology_name (lines_of bytes))) = sym known.is ∙ run_input-built paths (get known.files paths.input) bytes (at_some _ known.told held) short built in
+    let is : r ≡ writes paths (ontology_of (lines_of bytes)) = sym known.is ∙ run_input-built paths (get known.files paths.input) bytes (at_some _ known.told held) short built in
     record {
       written = [];
-      output = record { name = paths.output; bytes = header_text (ontology_name (lines_of bytes)) };
+      output = record { name = paths.output; ontology = ontology_of (lines_of bytes); bytes = obo_text (ontology_of (lines_of bytes)) };
       rest = [];
       outputs = ap (λ r. r.outputs) is;
       named = refl;

@@ -1,61 +1,97 @@
--- A header, read line by line: what is known behind the lines that were read.
-use Rattle.std.proofs.Common.{◌≡◌, ℕ, ◌+◌, ◌≤◌, ◌||◌, Bool, true, false, cond, List, [], ◌∷◌, ◌++◌, Option, Some, None, is_some, length, refl, sym, ap, ◌∙◌, arith}
-use Rattle.std.proofs.lemmas.List.Folds.{list_any-append}
-use Rattle.std.specs.List.{list_any}
+-- The header, read line by line: what is known behind the lines that were read.
+use Rattle.std.proofs.Common.{◌≡◌, ℕ, ◌+◌, true, false, not, ◌&&◌, ◌||◌, if◌then◌else◌, List, [], ◌∷◌, ◌++◌, Option, Some, None, is_some, length, refl, sym, ap, ◌∙◌}
+use Rattle.std.specs.Prelude.{map, nat_eq, unwrap_or}
+use Rattle.std.specs.List.{cons_option, filter_map, list_all, list_any}
 use Rattle.std.specs.Option.{option_or}
-use Rattle.release_chain.specs.Header.{first_unbuilt, is_built, is_built_if, name_in, ontology_name, unbuilt_line}
-use Rattle.release_chain.specs.Lines.{Line, lines_of}
+use Rattle.std.specs.Str.{bytes_eq}
+use Rattle.std.proofs.lemmas.Bool.{and_parts, false≢true}
+use Rattle.release_chain.specs.Built.{any_has, begins_frame, first_unbuilt, is_built, is_in_frame, is_of_frame, of_frame, unbuilt_line}
+use Rattle.release_chain.specs.Clauses.{clause, clauses_of_file, first_named, header_of, ontology_name, placed_at, placed_from}
+use Rattle.release_chain.specs.Forms.{id_in, is_format_version, is_frame_line, is_printable, ontology_in}
+use Rattle.release_chain.specs.Lines.{Line}
+use Rattle.release_chain.specs.Mapping.{add_all, axiom_of, entry_of_clause}
+use Rattle.release_chain.specs.Progress.{Read, ReadHeader, is_header_line}
+use Rattle.release_chain.specs.declared.clause.Tag.TheVariants.{Id}
+use Rattle.release_chain.proofs.EntryLemmas.{none_in_nothing}
+use Rattle.release_chain.proofs.FormLemmas.{SaysNothing, header_says_nothing}
+use Rattle.release_chain.proofs.ReaderLemmas.{first_unbuilt-built, first_unbuilt-unbuilt}
 
--- a line that names an ontology
-abbrev names : Line → Bool
-names line = is_some (name_in line)
-
--- the lines that were read are built, and the name is that of the first that names an ontology
-pub record HeaderSoFar (bytes rest : List ℕ) (name : Option Line) (number : ℕ) : Type 0 where
+-- the lines that were read are built and say nothing, and the name is that of the first of them that names an ontology
+pub record HeaderSoFar (lines : List Line) (name : Option (List ℕ)) (number : ℕ) (rest : List Line) : Type 0 where
   pub earlier : List Line
-  pub named : list_any names earlier ≡ is_some name
-  pub unbuilt : unbuilt_line (lines_of bytes) ≡ first_unbuilt earlier number (lines_of rest)
-  pub ontology : ontology_name (lines_of bytes) ≡ option_or name (ontology_name (lines_of rest))
-  pub counted : number + length rest ≤ length bytes + 1
+  pub unbuilt : unbuilt_line lines ≡ first_unbuilt earlier number rest
+  pub clauses : clauses_of_file lines ≡ placed_from [] number rest
+  pub named : ontology_name lines ≡ option_or name (first_named (header_of rest))
+  pub has_name : any_has ontology_in earlier ≡ is_some name
+  pub no_frame : is_in_frame earlier ≡ false
+  pub no_ids : filter_map id_in earlier ≡ []
 
--- before the first line
-pub header_begins : (bytes : List ℕ) → HeaderSoFar bytes bytes None 1
-header_begins bytes = record { earlier = []; named = refl; unbuilt = refl; ontology = refl; counted = omega arith }
+pub header_begins : (lines : List Line) → HeaderSoFar lines None 1 lines
+header_begins lines = record { earlier = []; unbuilt = refl; clauses = refl; named = refl; has_name = refl; no_frame = refl; no_ids = refl }
 
--- one line on, where the line is built
-first_unbuilt-built : (earlier : List Line) (number : ℕ) (line : Line) (lines : List Line) → is_built earlier line ≡ true → first_unbuilt earlier number (line ∷ lines) ≡ first_unbuilt (earlier ++ line ∷ []) (number + 1) lines
-first_unbuilt-built earlier number line lines built = ap (λ b. cond b (first_unbuilt (earlier ++ line ∷ []) (number + 1) lines) (Some number)) built
+-- in the header a line is built where it may stand there
+built_in_header : (lines : List Line) (name : Option (List ℕ)) (number : ℕ) (line : Line) (later : List Line) (read : HeaderSoFar lines name number (line ∷ later)) → is_frame_line line ≡ false → is_built read.earlier line later ≡ is_header_line (is_some name) line
+built_in_header lines name number line later read no_frame =
+    λ i. list_all is_printable line && (nat_eq (length line) 0
+    || (if no_frame i then begins_frame read.earlier later
+    else (if read.no_frame i then is_of_frame (of_frame read.earlier) line else (is_format_version line || (is_some (ontology_in line) && not (read.has_name i))))))
 
-first_unbuilt-unbuilt : (earlier : List Line) (number : ℕ) (line : Line) (lines : List Line) → is_built earlier line ≡ false → first_unbuilt earlier number (line ∷ lines) ≡ Some number
-first_unbuilt-unbuilt earlier number line lines not_built = ap (λ b. cond b (first_unbuilt (earlier ++ line ∷ []) (number + 1) lines) (Some number)) not_built
-
-either : (a b : Option Line) → (is_some a || (is_some b || false)) ≡ is_some (option_or a b)
-either None None = refl
-either None (Some b) = refl
-either (Some a) b = refl
-
-regrouped : (a b c : Option Line) → option_or a (option_or b c) ≡ option_or (option_or a b) c
+regrouped : (a b c : Option (List ℕ)) → option_or a (option_or b c) ≡ option_or (option_or a b) c
 regrouped None b c = refl
 regrouped (Some a) b c = refl
 
-pub header_goes_on : (bytes rest later : List ℕ) (line : Line) (name : Option Line) (number : ℕ) → HeaderSoFar bytes rest name number → lines_of rest ≡ line ∷ lines_of later → length later + 1 ≤ length rest → is_built_if (is_some name) line ≡ true → HeaderSoFar bytes later (option_or name (name_in line)) (number + 1)
-header_goes_on bytes rest later line name number so_far split shorter built = record {
-  earlier = so_far.earlier ++ line ∷ [];
-  named = list_any-append names so_far.earlier (line ∷ []) ∙ ap (λ b. b || (names line || false)) so_far.named ∙ either name (name_in line);
-  unbuilt = so_far.unbuilt ∙ ap (first_unbuilt so_far.earlier number) split
-      ∙ first_unbuilt-built so_far.earlier number line (lines_of later) (ap (λ b. is_built_if b line) so_far.named ∙ built);
-  ontology = so_far.ontology ∙ ap (λ lines. option_or name (ontology_name lines)) split ∙ regrouped name (name_in line) (ontology_name (lines_of later));
-  counted = let h : number + length rest ≤ length bytes + 1 = so_far.counted in omega arith;
+either : (a b : Option (List ℕ)) → (is_some b || is_some a) ≡ is_some (option_or a b)
+either None None = refl
+either None (Some b) = refl
+either (Some a) None = refl
+either (Some a) (Some b) = refl
+
+pub header_goes_on : (lines : List Line) (name : Option (List ℕ)) (number : ℕ) (line : Line) (later : List Line) → HeaderSoFar lines name number (line ∷ later) → is_frame_line line ≡ false → is_header_line (is_some name) line ≡ true → HeaderSoFar lines (option_or name (ontology_in line)) (number + 1) later
+header_goes_on lines name number line later read no_frame may_stand =
+    let built : is_built read.earlier line later ≡ true = built_in_header lines name number line later read no_frame ∙ may_stand in
+    let says : SaysNothing line = header_says_nothing (not (is_some name)) line (and_parts (list_all is_printable line) _ may_stand).1 in
+    record {
+      earlier = line ∷ read.earlier;
+      unbuilt = read.unbuilt ∙ first_unbuilt-built read.earlier number line later built;
+      clauses = read.clauses ∙ (λ i. placed_at number (says.clause [] i) ++ placed_from (unwrap_or (says.no_id i) []) (number + 1) later);
+      named = read.named ∙ (λ i. option_or name (first_named (if no_frame i then [] else line ∷ header_of later))) ∙ regrouped name (ontology_in line) (first_named (header_of later));
+      has_name = ap (λ b. is_some (ontology_in line) || b) read.has_name ∙ either name (ontology_in line);
+      no_frame = λ i. no_frame i || read.no_frame i;
+      no_ids = λ i. cons_option (says.no_id i) (read.no_ids i);
+    }
+
+-- a line that may not stand there is the least that is not built
+pub header_refused : (lines : List Line) (name : Option (List ℕ)) (number : ℕ) (line : Line) (later : List Line) → HeaderSoFar lines name number (line ∷ later) → is_frame_line line ≡ false → is_header_line (is_some name) line ≡ false → unbuilt_line lines ≡ Some number
+header_refused lines name number line later read no_frame may_not =
+    read.unbuilt ∙ first_unbuilt-unbuilt read.earlier number line later (built_in_header lines name number line later read no_frame ∙ may_not)
+
+no_more : (name : Option (List ℕ)) → option_or name None ≡ name
+no_more None = refl
+no_more (Some name) = refl
+
+ended : (lines : List Line) (name : Option (List ℕ)) (number : ℕ) (rest : List Line) (read : HeaderSoFar lines name number rest) → header_of rest ≡ [] → ReadHeader lines name number rest
+ended lines name number rest read none = record {
+  earlier = read.earlier;
+  unbuilt = read.unbuilt;
+  clauses = read.clauses;
+  named = read.named ∙ ap (λ header. option_or name (first_named header)) none ∙ no_more name;
+  no_ids = read.no_ids;
 }
 
--- a line that is not built is the least one
-pub header_refused : (bytes rest later : List ℕ) (line : Line) (name : Option Line) (number : ℕ) → HeaderSoFar bytes rest name number → lines_of rest ≡ line ∷ lines_of later → is_built_if (is_some name) line ≡ false → unbuilt_line (lines_of bytes) ≡ Some number
-header_refused bytes rest later line name number so_far split not_built =
-    so_far.unbuilt ∙ ap (first_unbuilt so_far.earlier number) split
-    ∙ first_unbuilt-unbuilt so_far.earlier number line (lines_of later) (ap (λ b. is_built_if b line) so_far.named ∙ not_built)
+-- behind the last line, and before a frame line
+pub header_ends : (lines : List Line) (name : Option (List ℕ)) (number : ℕ) → HeaderSoFar lines name number [] → ReadHeader lines name number []
+header_ends lines name number read = ended lines name number [] read refl
 
--- behind the last line
-pub header_ends : (bytes rest : List ℕ) (name : Option Line) (number : ℕ) → HeaderSoFar bytes rest name number → length rest ≡ 0 → (unbuilt_line (lines_of bytes) ≡ None) × (name ≡ ontology_name (lines_of bytes))
-header_ends bytes [] None number so_far empty = (so_far.unbuilt, sym so_far.ontology)
-header_ends bytes [] (Some name) number so_far empty = (so_far.unbuilt, sym so_far.ontology)
-header_ends bytes (byte ∷ rest) name number so_far empty = absurd (omega arith)
+pub header_ends_at_frame : (lines : List Line) (name : Option (List ℕ)) (number : ℕ) (line : Line) (later : List Line) → HeaderSoFar lines name number (line ∷ later) → is_frame_line line ≡ true → ReadHeader lines name number (line ∷ later)
+header_ends_at_frame lines name number line later read is_frame = ended lines name number (line ∷ later) read (λ i. if is_frame i then [] else line ∷ header_of later)
+
+-- behind the header no axiom is there yet
+pub header_read : (space : List ℕ) (lines : List Line) (name : Option (List ℕ)) (number : ℕ) (rest : List Line) (read : ReadHeader lines name number rest) → Read space lines read.earlier [] [] number rest
+header_read space lines name number rest read = record {
+  unbuilt = read.unbuilt;
+  clauses = ap (λ placed. add_all [] (map (entry_of_clause space) placed)) read.clauses;
+  taken = λ id canonical. (
+    (λ is. let none : false ≡ true = (λ i. list_any (bytes_eq id) ((sym read.no_ids) i)) ∙ is in absurd (false≢true none)),
+    (λ here. absurd (none_in_nothing (axiom_of space (clause id Id [])) here)),
+  );
+}

@@ -1,9 +1,9 @@
 -- The laws of lines, by induction on the bytes and on the lines.
-use Rattle.std.proofs.Common.{◌≡◌, ℕ, ◌+◌, ◌<◌, ◌==◌, suc, zero, true, false, cond, List, [], ◌∷◌, ◌++◌, Option, Some, None, MatchOption, length, take, slice_index_or, refl, sym, ap, subst, ◌∙◌, arith, append_assoc, eqb-true}
-use Rattle.std.proofs.lemmas.List.{append-nil}
-use Rattle.release_chain.specs.Header.{first_unbuilt, is_built, unbuilt_line}
-use Rattle.release_chain.specs.Laws.{AllBuilt, IsLeastUnbuilt, LinesAreWritten, RefusesLeastLine, ended}
-use Rattle.release_chain.specs.Lines.{Line, lines_of, onto_first}
+use Rattle.std.proofs.Common.{◌≡◌, ℕ, ◌+◌, ◌<◌, ◌==◌, suc, zero, Bool, true, false, cond, List, [], ◌∷◌, ◌++◌, Option, Some, None, MatchOption, length, drop, reverse, take, slice_index_or, refl, sym, ap, ◌∙◌, add-one, arith, eqb-true}
+use mathlib.Core.List.{reverse_aux}
+use Rattle.release_chain.specs.Built.{first_unbuilt, is_built, unbuilt_line}
+use Rattle.release_chain.specs.Laws.{AllBuilt, IsLeastUnbuilt, LinesAreWritten, RefusesLeastLine, is_built_at}
+use Rattle.release_chain.specs.Lines.{Line, ended, lines_of, onto_first}
 
 -- bytes that end with an LF have a first line
 record HasFirst (bytes : List ℕ) : Type 0 where
@@ -43,66 +43,69 @@ ended-lines_of (byte ∷ bytes) =
           ∙ ap (λ xs. byte ∷ xs) (sym (ap ended behind.lines) ∙ ended-lines_of bytes)
     ] refl
 
+-- the lines before a place, the nearest first: some of these, and those before them
+abbrev before : List Line → List Line → List Line
+before earlier lines = reverse_aux lines earlier
+
+-- whether the line at an index of these is built behind earlier ones
+abbrev built_at : List Line → List Line → ℕ → Bool
+built_at earlier lines index = is_built (before earlier (take index lines)) (slice_index_or lines index []) (drop (suc index) lines)
+
 -- the lines behind earlier ones: all are built, or one is the first that is not
 record LeastFrom (earlier lines : List Line) (number found : ℕ) : Type 0 where
   index : ℕ
   numbered : found ≡ number + index
   within : index < length lines
-  not_built : is_built (earlier ++ take index lines) (slice_index_or lines index []) ≡ false
-  built_before : (before : ℕ) → before < index → is_built (earlier ++ take before lines) (slice_index_or lines before []) ≡ true
+  not_built : built_at earlier lines index ≡ false
+  built_before : (below : ℕ) → below < index → built_at earlier lines below ≡ true
 
 abbrev AllBuiltFrom : List Line → List Line → Type 0
-AllBuiltFrom earlier lines = (index : ℕ) → index < length lines → is_built (earlier ++ take index lines) (slice_index_or lines index []) ≡ true
-
--- what stands behind one more line stands behind the lines with it
-regrouped : (earlier : List Line) (line : Line) (lines : List Line) (index : ℕ) → (earlier ++ line ∷ []) ++ take index lines ≡ earlier ++ take (suc index) (line ∷ lines)
-regrouped earlier line lines index = append_assoc earlier (line ∷ []) (take index lines)
+AllBuiltFrom earlier lines = (index : ℕ) → index < length lines → built_at earlier lines index ≡ true
 
 -- all lines up to an index, with a built line in front of them
-all_before : (earlier : List Line) (line : Line) (lines : List Line) (end : ℕ) → is_built earlier line ≡ true
-    → ((before : ℕ) → before < end → is_built ((earlier ++ line ∷ []) ++ take before lines) (slice_index_or lines before []) ≡ true)
-    → (before : ℕ) → before < suc end → is_built (earlier ++ take before (line ∷ lines)) (slice_index_or (line ∷ lines) before []) ≡ true
-all_before earlier line lines end built behind zero below = rw append-nil built
-all_before earlier line lines end built behind (suc before) below =
-    subst (λ earlier. is_built earlier (slice_index_or lines before []) ≡ true) (regrouped earlier line lines before) (behind before (omega arith))
-
-all_on : (earlier : List Line) (line : Line) (lines : List Line) → is_built earlier line ≡ true → AllBuiltFrom (earlier ++ line ∷ []) lines → AllBuiltFrom earlier (line ∷ lines)
-all_on earlier line lines built all = all_before earlier line lines (length lines) built all
+all_before : (earlier : List Line) (line : Line) (lines : List Line) (end : ℕ) → is_built earlier line lines ≡ true
+    → ((below : ℕ) → below < end → built_at (line ∷ earlier) lines below ≡ true)
+    → (below : ℕ) → below < suc end → built_at earlier (line ∷ lines) below ≡ true
+all_before earlier line lines end built behind zero within = built
+all_before earlier line lines end built behind (suc below) within = behind below (omega arith)
 
 -- a built line in front of lines of which all are built, or one is the least that is not
-goes_on : (earlier : List Line) (number : ℕ) (line : Line) (lines : List Line) → is_built earlier line ≡ true → (found : Option ℕ) → MatchOption found (AllBuiltFrom (earlier ++ line ∷ []) lines) (LeastFrom (earlier ++ line ∷ []) lines (number + 1)) → MatchOption found (AllBuiltFrom earlier (line ∷ lines)) (LeastFrom earlier (line ∷ lines) number)
-goes_on earlier number line lines built None all = all_on earlier line lines built all
+goes_on : (earlier : List Line) (number : ℕ) (line : Line) (lines : List Line) → is_built earlier line lines ≡ true → (found : Option ℕ) → MatchOption found (AllBuiltFrom (line ∷ earlier) lines) (LeastFrom (line ∷ earlier) lines (number + 1)) → MatchOption found (AllBuiltFrom earlier (line ∷ lines)) (LeastFrom earlier (line ∷ lines) number)
+goes_on earlier number line lines built None all = all_before earlier line lines (length lines) built all
 goes_on earlier number line lines built (Some found) least = record {
   index = suc least.index;
   numbered = let h : found ≡ (number + 1) + least.index = least.numbered in omega arith;
   within = let h : least.index < length lines = least.within in omega arith;
-  not_built = subst (λ earlier. is_built earlier (slice_index_or lines least.index []) ≡ false) (regrouped earlier line lines least.index) least.not_built;
+  not_built = least.not_built;
   built_before = all_before earlier line lines least.index built least.built_before;
 }
 
 least_from : (earlier : List Line) (number : ℕ) (lines : List Line) → MatchOption (first_unbuilt earlier number lines) (AllBuiltFrom earlier lines) (LeastFrom earlier lines number)
 least_from earlier number [] = λ index within. absurd (omega arith)
 least_from earlier number (line ∷ lines) =
-    elim (is_built earlier line) as (λ b. is_built earlier line ≡ b → MatchOption (cond b (first_unbuilt (earlier ++ line ∷ []) (number + 1) lines) (Some number)) (AllBuiltFrom earlier (line ∷ lines)) (LeastFrom earlier (line ∷ lines) number)) [
-      | true ↦ λ h. goes_on earlier number line lines h (first_unbuilt (earlier ++ line ∷ []) (number + 1) lines) (least_from (earlier ++ line ∷ []) (number + 1) lines)
+    elim (is_built earlier line lines) as (λ b. is_built earlier line lines ≡ b → MatchOption (cond b (first_unbuilt (line ∷ earlier) (number + 1) lines) (Some number)) (AllBuiltFrom earlier (line ∷ lines)) (LeastFrom earlier (line ∷ lines) number)) [
+      | true ↦ λ h. goes_on earlier number line lines h (first_unbuilt (line ∷ earlier) (number + 1) lines) (least_from (line ∷ earlier) (number + 1) lines)
       | false ↦ λ h. record {
         index = 0;
         numbered = omega arith;
         within = omega arith;
-        not_built = rw append-nil h;
-        built_before = λ before below. absurd (omega arith);
+        not_built = h;
+        built_before = λ below within. absurd (omega arith);
       }
     ] refl
 
 -- the same of all lines, numbered from 1
+told_at : (lines : List Line) (index : ℕ) (is : Bool) → built_at [] lines index ≡ is → is_built_at lines index ≡ is
+told_at lines index is h = ap (λ n. is_built (reverse (take index lines)) (slice_index_or lines index []) (drop n lines)) (add-one index) ∙ h
+
 told : (lines : List Line) (found : Option ℕ) → MatchOption found (AllBuiltFrom [] lines) (LeastFrom [] lines 1) → MatchOption found (AllBuilt lines) (IsLeastUnbuilt lines)
-told lines None all = all
+told lines None all = λ index within. told_at lines index true (all index within)
 told lines (Some found) least = record {
   index = least.index;
   numbered = let h : found ≡ 1 + least.index = least.numbered in omega arith;
   within = least.within;
-  not_built = least.not_built;
-  built_before = least.built_before;
+  not_built = told_at lines least.index false least.not_built;
+  built_before = λ below within. told_at lines below true (least.built_before below within);
 }
 
 pub least_line : (bytes : List ℕ) → RefusesLeastLine bytes

@@ -2,6 +2,7 @@
 -- folder after it. Where the run of the words is known, the ending is that of the run, as far as nothing outside failed
 -- and memory was there. (Own.)
 use Rattle.std.specs.Prelude.{◌≡◌, ◌≢◌, ◌⊎◌, ℕ, List, ◌++◌, ◌∷◌, Option, Some, None, Err, Contains, IfErr, IfSome, IsTrue}
+use Rattle.std.specs.FinMap.{get}
 use Rattle.std.specs.Option.{option_map}
 use Rattle.rel_io.specs.Count.{Rose}
 use Rattle.rel_io.specs.Folder.{HoldsOthers}
@@ -9,6 +10,7 @@ use Rattle.rel_io.specs.FolderState.{Files, FolderState}
 use Rattle.rel_io.specs.Sink.{SinkState}
 use Rattle.release_chain.specs.Fault.{is_refusal}
 use Rattle.release_chain.specs.Run.{Opening, Output, Run, after_outputs, run}
+use Rattle.release_chain.specs.Text.{obo_text}
 use Rattle.release_chain.specs.Words.{Word, chain}
 use Rattle.release_chain.specs.declared.fault.Fault.{Fault}
 use Rattle.release_chain.specs.declared.fault.Fault.TheVariants.{BadWord, MissingInput, ReadFault, WriteFault, NoMemory}
@@ -26,6 +28,18 @@ pub record EndsAs (run : Run) (before : FolderState) (fault : Option Fault) (now
 -- without a fault the ending is that of the run
 abbrev pub Done : List Word → FolderState → Option Fault → FolderState → Type 0
 Done words before fault now = fault ≡ None → IfSome (run words before.holds) (λ run. EndsAs run before fault now)
+
+-- a file that a run wrote: it is held, it is the text of its ontology, and this is the merged one. No axiom was lost
+-- and none was invented, and a model of the one is a model of the other
+pub record IsReleased (run : Run) (now : FolderState) (output : Output) : Type 0 where
+  pub held : IfSome now.holds (λ files. get files output.name ≡ Some output.bytes)
+  pub text : output.bytes ≡ obo_text output.ontology
+  pub merged : run.merged ≡ Some output.ontology
+
+-- without a fault each output of the run is such a file
+abbrev pub Released : List Word → FolderState → Option Fault → FolderState → Type 0
+Released words before fault now =
+    fault ≡ None → IfSome (run words before.holds) (λ run. (output : Output) → Contains run.outputs output → IsReleased run now output)
 
 -- what is refused is what the run refuses, behind its outputs
 abbrev pub Refused : List Word → FolderState → Option Fault → FolderState → Type 0

@@ -4,7 +4,8 @@ ghost use Rattle.std.specs.String.{string_bytes};
 ghost use Rattle.rel_io.specs.FolderState.{NoCountFell};
 ghost use Rattle.release_chain.specs.Ending.{Ends, EndsChain, fault_of_input};
 
-use crate::header::{header_text, read_header};
+use crate::reader::{LineFault, read_ontology};
+use crate::text::obo_text;
 use crate::words::{Paths, read_words};
 use crate::{Fault, FileFault, read_file};
 use rel_io::{Bytes, Dup, Folder, PutFault};
@@ -30,10 +31,13 @@ fn run_chain<F: Folder>(alloc: Global, paths: &Paths, folder: &mut F) -> Result<
         Ok(bytes) => bytes,
         Err(fault) => return Err(input_fault(fault, name)),
     };
-    let text = match read_header(bytes.as_slice()) {
-        Ok(ontology) => header_text(alloc, ontology)?,
-        Err(line) => return Err(Fault::LineNotBuilt { file: name, line }),
+    let ontology = match read_ontology(alloc, bytes.as_slice()) {
+        Ok(ontology) => ontology,
+        Err(LineFault::NotBuilt(line)) => return Err(Fault::LineNotBuilt { file: name, line }),
+        Err(LineFault::NoMemory) => return Err(Fault::NoMemory),
     };
+    drop(bytes);
+    let text = obo_text(alloc, ontology)?;
     let output = paths.output.copy(alloc)?;
     match folder.put(paths.output.as_slice(), text.as_slice()) {
         Ok(()) => Ok(()),

@@ -35,8 +35,16 @@ fn run(alloc: Global, texts: &[&str], folder: &mut MemFolder) -> Result<Ended, N
     Ok(release(alloc, &words, folder, &mut out, &mut err))
 }
 
+/// A file whose frames stand out of order, with a parent that is said twice.
+const WHEELS: &str =
+    "ontology: ex\n\n[Term]\nid: EX:0000002\nname: wheel\nis_a: EX:0000001\nis_a: EX:0000001\n\n[Term]\nid: EX:0000001\nname: part\n";
+
+/// Its canonical text.
+const WHEELS_TEXT: &str =
+    "format-version: 1.4\nontology: ex\n\n[Term]\nid: EX:0000001\nname: part\n\n[Term]\nid: EX:0000002\nname: wheel\nis_a: EX:0000001 ! part\n";
+
 #[test]
-fn headers_are_written(rt: HostRuntime) -> Result<(), Fail> {
+fn the_canonical_text_is_written(rt: HostRuntime) -> Result<(), Fail> {
     let alloc = rt.alloc();
     let cases = [
         ("", "format-version: 1.4\n"),
@@ -48,6 +56,22 @@ fn headers_are_written(rt: HostRuntime) -> Result<(), Fail> {
         (
             "ontology: ex\n\nformat-version: 9 : ~\nformat-version: ",
             "format-version: 1.4\nontology: ex\n",
+        ),
+        (WHEELS, WHEELS_TEXT),
+        (WHEELS_TEXT, WHEELS_TEXT),
+        (
+            "[Term]\nid: EX:1",
+            "format-version: 1.4\n\n[Term]\nid: EX:1\n",
+        ),
+        // Ids go by bytes, and their numbers are no numbers.
+        (
+            "[Term]\nid: b:10\n[Term]\nid: b:9\n[Term]\nid: B_x:1\n",
+            "format-version: 1.4\n\n[Term]\nid: B_x:1\n\n[Term]\nid: b:10\n\n[Term]\nid: b:9\n",
+        ),
+        // A parent without a frame or a name has none behind it; a comment is not kept; a name stands before parents.
+        (
+            "[Term]\nid: A:1\nis_a: Z:1 ! z : ~\nis_a: A:2 ! \n\nis_a: A:1\nname: _ -a 1\n[Term]\nid: A:2\n",
+            "format-version: 1.4\n\n[Term]\nid: A:1\nname: _ -a 1\nis_a: A:1 ! _ -a 1\nis_a: A:2\nis_a: Z:1\n\n[Term]\nid: A:2\n",
         ),
     ];
     for (text, want) in cases {
@@ -65,7 +89,7 @@ fn headers_are_written(rt: HostRuntime) -> Result<(), Fail> {
 fn the_least_line_that_is_not_built_is_refused(rt: HostRuntime) -> Result<(), Fail> {
     let alloc = rt.alloc();
     let cases = [
-        ("[Term]\nid: EX:1\ndef: \"x\" []\n", 1),
+        ("[Term]\nid: EX:1\ndef: \"x\" []\n", 3),
         ("ontology: ex\n\nontology: ex\n", 3),
         ("ontology: ex\r\n", 1),
         ("\n\n ", 3),
@@ -75,6 +99,45 @@ fn the_least_line_that_is_not_built_is_refused(rt: HostRuntime) -> Result<(), Fa
         ("format-version: \t\n", 1),
         ("\u{feff}ontology: ex\n", 1),
         ("\nformat-version: \0", 2),
+        // A frame line without a new id directly behind it.
+        ("[Term]", 1),
+        ("[Term]\n\nid: EX:1\n", 1),
+        ("[Term]\nname: x\nid: EX:1\n", 1),
+        (
+            "[Term]\nid: EX:1\n[Term]\nid: EX:2\n\n[Term]\nid: EX:1\n",
+            6,
+        ),
+        ("[Term]\n[Term]\nid: EX:1\n", 1),
+        ("[Term] \nid: EX:1\n", 1),
+        ("[Typedef]\nid: EX:1\n", 1),
+        // An id that is not canonical, and one that does not stand behind a frame line.
+        ("[Term]\nid: EX:\n", 1),
+        ("[Term]\nid: EX:1a\n", 1),
+        ("[Term]\nid: 1X:1\n", 1),
+        ("[Term]\nid: E-X:1\n", 1),
+        ("[Term]\nid: EX:1 \n", 1),
+        ("[Term]\nid: part_of\n", 1),
+        ("id: EX:1\n", 1),
+        ("[Term]\nid: EX:1\nid: EX:2\n", 3),
+        // Names.
+        ("name: x\n", 1),
+        ("[Term]\nid: EX:1\nname: x\nname: x\n", 4),
+        ("[Term]\nid: EX:1\nname: x\nis_a: EX:2\nname: y\n", 5),
+        ("[Term]\nid: EX:1\nname: x \n", 3),
+        ("[Term]\nid: EX:1\nname:  x\n", 3),
+        ("[Term]\nid: EX:1\nname: \n", 3),
+        ("[Term]\nid: EX:1\nname: x, y\n", 3),
+        ("[Term]\nid: EX:1\nname: caf\u{e9}\n", 3),
+        // Parents.
+        ("is_a: EX:1\n", 1),
+        ("[Term]\nid: EX:1\nis_a: x\n", 3),
+        ("[Term]\nid: EX:1\nis_a: EX:2 \n", 3),
+        ("[Term]\nid: EX:1\nis_a: EX:2 !\n", 3),
+        ("[Term]\nid: EX:1\nis_a: EX:2! x\n", 3),
+        ("[Term]\nid: EX:1\nis_a: EX:2 ! \u{e9}\n", 3),
+        // The header ends at the first frame line.
+        ("[Term]\nid: EX:1\nontology: ex\n", 3),
+        ("[Term]\nid: EX:1\nformat-version: 1.2\n", 3),
     ];
     for (text, line) in cases {
         let mut folder = folder_of(alloc, text, &[])?;

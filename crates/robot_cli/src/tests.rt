@@ -19,13 +19,23 @@ fn run(rt: &HostRuntime, input: &str, output: &str) -> Result<Ended, AllocError>
     Ok(release(rt.alloc(), &words, &mut folder, &mut out, &mut err))
 }
 
+/// The file of the stored run: frames out of order, and a parent that is said twice.
+const WHEELS: &str =
+    "ontology: ex\n\n[Term]\nid: EX:0000002\nname: wheel\nis_a: EX:0000001\nis_a: EX:0000001\n\n[Term]\nid: EX:0000001\nname: part\n";
+
+/// Its canonical text.
+const WHEELS_TEXT: &str =
+    "format-version: 1.4\nontology: ex\n\n[Term]\nid: EX:0000001\nname: part\n\n[Term]\nid: EX:0000002\nname: wheel\nis_a: EX:0000001 ! part\n";
+
 #[test]
 fn a_real_file_is_read_and_written(rt: HostRuntime) -> Result<(), Fail> {
-    fs::write(&rt, "a.obo", "format-version: 1.2\n\nontology: ex\n")?;
-    let ended = run(&rt, "a.obo", "b.obo")?;
-    assert_eq!(rt; ended.status, 0);
-    let text = fs::read_to_string(&rt, "b.obo")?;
-    assert_eq!(rt; text.as_str(), "format-version: 1.4\nontology: ex\n");
+    fs::write(&rt, "a.obo", WHEELS)?;
+    for (input, output) in [("a.obo", "b.obo"), ("b.obo", "c.obo")] {
+        let ended = run(&rt, input, output)?;
+        assert_eq!(rt; ended.status, 0);
+        let text = fs::read_to_string(&rt, output)?;
+        assert_eq!(rt; text.as_str(), WHEELS_TEXT);
+    }
     Ok(())
 }
 
