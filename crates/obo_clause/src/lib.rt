@@ -1,0 +1,12 @@
+//! What a line of an OBO file says: it is blank, begins a frame, or spells one clause; and where it is none of these,
+//! the one fault that is met first from left to right. The layer above reads documents by this alone, and a
+//! clause that was read is printed as a line that spells it again.
+#![tactic(auto)]
+
+mod clause;
+mod line;
+mod reader;
+
+pub use clause::{Clause, Qualifier, Scope, Value, Xref};
+pub use line::{Line, LineFault, SyntaxKind};
+pub use reader::read_line;
