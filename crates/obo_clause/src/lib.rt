@@ -5,8 +5,12 @@
 
 mod clause;
 mod line;
+mod print_laws;
+mod printer;
 mod reader;
 
 pub use clause::{Clause, Qualifier, Scope, Value, Xref};
 pub use line::{Line, LineFault, SyntaxKind};
+pub use print_laws::{printed_line_spells_again, spelled_clauses_fit};
+pub use printer::print_clause;
 pub use reader::read_line;

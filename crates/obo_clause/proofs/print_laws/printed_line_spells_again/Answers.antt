@@ -1,0 +1,5 @@
+use Rattle.obo_clause.proofs.SpelledMarks.{IsLine-spelled, IsMarked-spelled}
+use Rattle.obo_clause.proofs.print_laws.printed_line_spells_again.Goals as goal
+
+pub returns : goal.returns
+returns c = ?
