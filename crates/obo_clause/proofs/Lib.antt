@@ -1,1 +1,3 @@
+pub mod PrintedParts
+pub mod PrintedRuns
 pub mod SpelledMarks
