@@ -179,7 +179,7 @@ pub record IsBound (word : List ℕ) (marks : List Mark) : Type 0 where
   pub unspaced : AllPass is_no_space marks
   pub inner : AllPass is_inner marks
 
-some-map : (f : ℕ → Mark) (text : List ℕ) → 0 < length text → 0 < length (map f text)
+pub some-map : (f : ℕ → Mark) (text : List ℕ) → 0 < length text → 0 < length (map f text)
 some-map f [] h = absurd (omega arith)
 some-map f (byte ∷ text) h = omega arith
 

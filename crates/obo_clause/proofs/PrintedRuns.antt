@@ -195,10 +195,10 @@ prints_entry : (before : List ℕ) (xref : Xref) → Prints AreBlanks before →
 prints_entry before xref blank fits =
     Prints-append AreBlanks (IsXrefAt xref) (λ marks. IsEntry marks xref) before (xref_text xref) (entry_of xref) blank (prints_xref xref fits)
 
-prints_comma : Prints (Are (comma ∷ [])) (44 ∷ [])
+pub prints_comma : Prints (Are (comma ∷ [])) (44 ∷ [])
 prints_comma = Prints-sign 44 (omega arith) refl refl refl
 
-prints_blanks : Prints AreBlanks (codes " ")
+pub prints_blanks : Prints AreBlanks (codes " ")
 prints_blanks = Prints-weaker IsGap AreBlanks (codes " ") (λ marks gap. gap.blank) prints_space
 
 no_blanks : Prints AreBlanks []
