@@ -1,3 +1,4 @@
+pub mod PrintedLines
 pub mod PrintedParts
 pub mod PrintedBlocks
 pub mod PrintedRuns
