@@ -3,3 +3,4 @@ pub mod PrintedParts
 pub mod PrintedBlocks
 pub mod PrintedRuns
 pub mod SpelledMarks
+pub mod TextCuts

@@ -35,10 +35,10 @@ use Rattle.obo_clause.proofs.PrintedBlocks.{prints_ending}
 
 -- ---- bytes of ASCII that stand in lines
 
-is_line_byte : ℕ → Bool
+pub is_line_byte : ℕ → Bool
 is_line_byte byte = nat_lt byte 128 && not (byte == 10 || byte == 13)
 
-IsLine-constant : (bytes : List ℕ) → list_all is_line_byte bytes ≡ true → IsLine bytes
+pub IsLine-constant : (bytes : List ℕ) → list_all is_line_byte bytes ≡ true → IsLine bytes
 unfolding is_line_byte
 IsLine-constant [] all = IsLine-nil
 IsLine-constant (byte ∷ bytes) all =
@@ -76,7 +76,7 @@ tag_line tag each = IsLine-constant tag (list_all-from is_tag_byte is_line_byte 
 
 -- ---- scopes and truth values are words without escapes
 
-text_of_line : (bytes : List ℕ) → IsLine bytes → IsText bytes
+pub text_of_line : (bytes : List ℕ) → IsLine bytes → IsText bytes
 text_of_line bytes is = record { utf8 = is.utf8; no_return = is.no_return }
 
 prints_constant : (word : List ℕ) → 0 < length word → list_all is_line_byte word ≡ true → word_text word ≡ word → Prints (λ marks. IsWord marks word) word

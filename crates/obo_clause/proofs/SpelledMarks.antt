@@ -31,7 +31,7 @@ IsMarked-append xs ys ms ns h k = record {
   read = λ rest. ap marks_of (append_assoc xs ys rest) ∙ h.read (ys ++ rest) ∙ ap (λ more. ms ++ more) (k.read rest) ∙ sym (append_assoc ms ns (marks_of rest));
 }
 
-marks_of-bare : (byte : ℕ) (rest : List ℕ) → (byte == 92) ≡ false → marks_of (byte ∷ rest) ≡ bare byte ∷ marks_of rest
+pub marks_of-bare : (byte : ℕ) (rest : List ℕ) → (byte == 92) ≡ false → marks_of (byte ∷ rest) ≡ bare byte ∷ marks_of rest
 marks_of-bare byte [] is = refl
 marks_of-bare byte (next ∷ rest) is = rw is refl
 
@@ -128,7 +128,7 @@ high_split (byte ∷ high) tail (mark ∷ marks) h each reads =
       reads = split.reads;
     }
 
-IsUtf8-encode_append : (char : ℕ) (bytes : List ℕ) → scalar char ≡ true → IsUtf8 bytes → IsUtf8 (encode char ++ bytes)
+pub IsUtf8-encode_append : (char : ℕ) (bytes : List ℕ) → scalar char ≡ true → IsUtf8 bytes → IsUtf8 (encode char ++ bytes)
 IsUtf8-encode_append char bytes is text =
     (char ∷ text.0, (and_from _ _ is text.1.0, ap (λ l. encode char ++ l) text.1.1))
 
