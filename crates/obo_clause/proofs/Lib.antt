@@ -3,4 +3,5 @@ pub mod PrintedParts
 pub mod PrintedBlocks
 pub mod PrintedRuns
 pub mod SpelledMarks
+pub mod SpelledFits
 pub mod TextCuts

@@ -35,7 +35,7 @@ use Rattle.obo_clause.proofs.PrintedBlocks.{prints_ending}
 
 -- ---- bytes of ASCII that stand in lines
 
-pub is_line_byte : ℕ → Bool
+unfoldable pub is_line_byte : ℕ → Bool
 is_line_byte byte = nat_lt byte 128 && not (byte == 10 || byte == 13)
 
 pub IsLine-constant : (bytes : List ℕ) → list_all is_line_byte bytes ≡ true → IsLine bytes
