@@ -24,7 +24,7 @@ use Rattle.obo_clause.specs.Grammar.{AreBlanks, IsEnding, IsQuoted, IsWord, IsXr
 use Rattle.obo_clause.specs.Marks.{Mark, bare, marks_of, read_as}
 use Rattle.obo_clause.specs.PrintLaws.{FitBehind, Fits, FitsQualifier, FitsShape, FitsXref, IsLineOf, IsRawText, IsText, IsWordOrNone, IsWordText}
 use Rattle.obo_clause.specs.Printing.{behind_space, block_text, clause_text, is_escaped_in_word, list_text, quoted_text, run_text, scope_text, space, type_text, value_text, word_text, xref_text}
-use Rattle.obo_clause.specs.Spelled.{IsLine}
+use Rattle.obo_clause.specs.Spelled.{IsLine, IsSpelledAs}
 use Rattle.obo_clause.specs.Spelling.{IsContent, IsMoreList, IsMoreWord, IsRun, IsScoped, IsSecondWord, IsTagged, IsTypeScope, IsValue, Says, Spells, bool_word, scope_word, shape_at}
 use Rattle.obo_clause.specs.Spelling as spelling
 use Rattle.obo_clause.specs.Vocabulary.{is_one_of, is_space, is_tag_byte, is_word_mark}
@@ -66,8 +66,8 @@ unfolding is_line_byte
 tag_byte byte is =
     elim (cases_lt byte 128) [
       | inl low ↦
-        ⊎_elim (λ fails. absurd (both_ways _ fails is)) (not-false (is_line_byte byte))
-        (and_cases (is_tag_byte byte) (not (is_line_byte byte)) (agree_below_at (λ n. is_tag_byte n && not (is_line_byte n)) (λ n. false) 128 byte refl low))
+          ⊎_elim (λ fails. absurd (both_ways _ fails is)) (not-false (is_line_byte byte))
+          (and_cases (is_tag_byte byte) (not (is_line_byte byte)) (agree_below_at (λ n. is_tag_byte n && not (is_line_byte n)) (λ n. false) 128 byte refl low))
       | inr high ↦ absurd (both_ways _ (tag_byte-high byte high) is)
     ]
 
@@ -187,10 +187,10 @@ xref_anywhere xref marks is =
     let more = is.labelled.more in
     record {
       is = λ behind.
-        subst (λ (l : List Mark). IsValue behind shapes.XrefShape l (value.XrefValue xref)) (append_assoc is.id blanks more ∙ ap (λ l. is.id ++ l) (sym is.labelled.whole) ∙ sym is.whole)
-        (spelling.IsValue.xref is.id blanks more xref is.bound.one_word.some is.bound.quoted
-        (record { free = free_inner is.id (blanks ++ more ++ behind) is.bound.inner; trimmed = trimmed_unspaced is.id is.bound.unspaced; read = is.bound.one_word.read })
-        is.labelled.blank is.labelled.labelled);
+          subst (λ (l : List Mark). IsValue behind shapes.XrefShape l (value.XrefValue xref)) (append_assoc is.id blanks more ∙ ap (λ l. is.id ++ l) (sym is.labelled.whole) ∙ sym is.whole)
+          (spelling.IsValue.xref is.id blanks more xref is.bound.one_word.some is.bound.quoted
+          (record { free = free_inner is.id (blanks ++ more ++ behind) is.bound.inner; trimmed = trimmed_unspaced is.id is.bound.unspaced; read = is.bound.one_word.read })
+          is.labelled.blank is.labelled.labelled);
     }
 
 prints_literal : (relation text datatype : List ℕ) → IsWordText relation → IsText text → IsWordText datatype → Prints (IsAnywhere shapes.Property (value.Literal relation text datatype)) (value_text (value.Literal relation text datatype))
@@ -275,15 +275,15 @@ whole_marks bytes marks before main between ending head tail marked whole is beh
 shaped_content : (shape : ValueShape) (one : Value) (qualifiers : List Qualifier) → (shape ≡ shapes.Raw → ⊥) → FitsShape shape one → All FitsQualifier qualifiers → IsContentLine shape (content_text one qualifiers) one qualifiers
 shaped_content shape one qualifiers not_raw fits all =
     let printed = prints_then (IsLed (IsAnywhere shape one)) (IsLed (λ marks. IsEnding marks qualifiers)) (behind_space (value_text one)) (behind_space (block_text qualifiers))
-          (prints_led (IsAnywhere shape one) (value_text one) (prints_value shape one not_raw fits))
-          (prints_led (λ marks. IsEnding marks qualifiers) (block_text qualifiers) (prints_ending qualifiers all)) in
+    (prints_led (IsAnywhere shape one) (value_text one) (prints_value shape one not_raw fits))
+    (prints_led (λ marks. IsEnding marks qualifiers) (block_text qualifiers) (prints_ending qualifiers all)) in
     let left = printed.is.left in
     let right = printed.is.right in
     record {
       content =
-        spelling.IsContent.shaped shape (content_text one qualifiers) left.before left.main right.before right.main one qualifiers
-        (whole_marks (content_text one qualifiers) printed.marks left.before left.main right.before right.main printed.is.first printed.is.second printed.marked printed.is.whole left.whole right.whole)
-        left.blank (left.is.is (right.before ++ right.main)) right.blank right.is;
+          spelling.IsContent.shaped shape (content_text one qualifiers) left.before left.main right.before right.main one qualifiers
+          (whole_marks (content_text one qualifiers) printed.marks left.before left.main right.before right.main printed.is.first printed.is.second printed.marked printed.is.whole left.whole right.whole)
+          left.blank (left.is.is (right.before ++ right.main)) right.blank right.is;
       line = printed.line;
     }
 
@@ -294,7 +294,7 @@ raw_content [] is = record {
 }
 raw_content (byte ∷ text) is = record {
   content =
-    spelling.IsContent.raw space (byte ∷ text) [] (All-cons (λ one. is_blank one ≡ true) 32 [] refl (All-nil (λ one. is_blank one ≡ true))) is.trimmed (All-nil (λ one. is_blank one ≡ true));
+      spelling.IsContent.raw space (byte ∷ text) [] (All-cons (λ one. is_blank one ≡ true) 32 [] refl (All-nil (λ one. is_blank one ≡ true))) is.trimmed (All-nil (λ one. is_blank one ≡ true));
   line = IsLine-append (space ++ byte ∷ text) [] (IsLine-append space (byte ∷ text) prints_space.line is.line) IsLine-nil;
 }
 
@@ -326,20 +326,26 @@ printed_line kind first clause fits =
     let behind = printed_content (shape_at kind first clause.tag) clause.value clause.qualifiers fits.value fits.qualifiers in
     let rest = content_text clause.value clause.qualifiers in
     let spells : Spells kind first (clause_text clause) clause = record {
-          rest = rest;
-          tagged = record {
-            before = [];
-            between = [];
-            whole = ap (λ l. l ++ 58 ∷ rest) (sym (append-nil clause.tag));
-            blank_before = All-nil (λ byte. is_blank byte ≡ true);
-            some = fits.some;
-            each = fits.each;
-            blank_between = All-nil (λ byte. is_blank byte ≡ true);
-          };
-          content = behind.content;
-        } in
+      rest = rest;
+      tagged = record {
+        before = [];
+        between = [];
+        whole = ap (λ l. l ++ 58 ∷ rest) (sym (append-nil clause.tag));
+        blank_before = All-nil (λ byte. is_blank byte ≡ true);
+        some = fits.some;
+        each = fits.each;
+        blank_between = All-nil (λ byte. is_blank byte ≡ true);
+      };
+      content = behind.content;
+    } in
     record {
       is_line = IsLine-append clause.tag (58 ∷ rest) (tag_line clause.tag fits.each) (IsLine-append (58 ∷ []) rest colon_line behind.line);
       spells = spells;
       says = spelling.Says.content clause spells;
     }
+
+-- the printed line is a line that spells a clause whose parts are as they have to be
+pub fit_is_spelled : (kind : FrameKind) (first : Bool) (clause : Clause) → Fits kind first clause → IsSpelledAs kind first clause
+fit_is_spelled kind first clause fits =
+    let printed = printed_line kind first clause fits in
+    record { line = clause_text clause; is_line = printed.is_line; spells = printed.spells }

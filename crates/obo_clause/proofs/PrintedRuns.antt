@@ -26,8 +26,8 @@ IsEscaping-run is_outer = record {
   letters = λ byte is. elim (or_cases (is_one_of (10 ∷ 9 ∷ codes "\\{!") byte) (is_outer && (byte == 32)) is) [
     | inl sign ↦ is_one_of-passes (λ one. nat_lt one 128 && (meant (letter_of one) == one)) (10 ∷ 9 ∷ codes "\\{!") byte refl sign
     | inr outer ↦
-      let same : byte ≡ 32 = eqb-true byte 32 (and_parts is_outer (byte == 32) outer).1 in
-      subst (λ (one : ℕ). (nat_lt one 128 && (meant (letter_of one) == one)) ≡ true) (sym same) refl
+        let same : byte ≡ 32 = eqb-true byte 32 (and_parts is_outer (byte == 32) outer).1 in
+        subst (λ (one : ℕ). (nat_lt one 128 && (meant (letter_of one) == one)) ≡ true) (sym same) refl
   ];
   backslash = refl;
   line_feed = refl;

@@ -237,11 +237,13 @@ fits_value behind _ _ _ qualifiers (spelling.IsValue.synonym marks scopes more t
     ((cut.0, later.0, fits_more_list more behind xrefs listed later.1), all)
 fits_value behind _ _ _ qualifiers (spelling.IsValue.xref marks blanks more xref some quoted run blank labelled) low sound all =
     let whole : Sound (marks ++ (blanks ++ (more ++ behind))) = subst Sound (append_assoc (marks ++ blanks) more behind ∙ append_assoc marks blanks (more ++ behind)) sound in
-    let cut = sound_cut marks (blanks ++ (more ++ behind)) (low_blanks blanks (more ++ behind) blank (low_label more behind xref.label labelled low)) whole in
-    (record {
-      id = record { some = some_read marks xref.id run.read some; text = text_read marks xref.id run.read cut.0 };
-      label = sound_label more behind xref.label labelled (sound_behind_blanks blanks (more ++ behind) blank cut.1);
-    }, all)
+    let cut = sound_cut marks (blanks ++ (more ++ behind)) (low_blanks blanks (more ++ behind) blank (low_label more behind xref.label labelled low)) whole in (
+      record {
+        id = record { some = some_read marks xref.id run.read some; text = text_read marks xref.id run.read cut.0 };
+        label = sound_label more behind xref.label labelled (sound_behind_blanks blanks (more ++ behind) blank cut.1);
+      },
+      all,
+    )
 fits_value behind _ _ _ qualifiers (spelling.IsValue.literal marks blanks texts more relation text datatype is blank quoted typed) low sound all =
     let whole : Sound ((marks ++ blanks ++ texts) ++ (more ++ behind)) = subst Sound (append_assoc (marks ++ blanks ++ texts) more behind) sound in
     let parts = fits_described marks blanks texts (more ++ behind) relation text is blank quoted whole in

@@ -122,8 +122,8 @@ high_split (byte ∷ high) tail (mark ∷ marks) h each reads =
     record {
       rest = split.rest;
       spells =
-        ap (λ l. l ++ spelled marks) (high_is_bare mark.is_escaped mark.byte (subst (λ (n : ℕ). 128 ≤ n) same h.0) (All-head (λ one. is_spellable one ≡ true) mark marks each))
-        ∙ ap (λ l. mark.byte ∷ l) split.spells ∙ ap (λ (n : ℕ). n ∷ (high ++ spelled split.rest)) (sym same);
+          ap (λ l. l ++ spelled marks) (high_is_bare mark.is_escaped mark.byte (subst (λ (n : ℕ). 128 ≤ n) same h.0) (All-head (λ one. is_spellable one ≡ true) mark marks each))
+          ∙ ap (λ l. mark.byte ∷ l) split.spells ∙ ap (λ (n : ℕ). n ∷ (high ++ spelled split.rest)) (sym same);
       each = split.each;
       reads = split.reads;
     }
@@ -140,8 +140,8 @@ spelled_chars (char ∷ chars) marks are each reads =
     elim (cases_lt char 128) [
       | inl low ↦ spelled_low char chars marks parts.1 low each (subst (λ (l : List ℕ). l ++ encodes chars ≡ read_as marks) (encode_ascii char low) reads) (spelled_chars chars)
       | inr high ↦
-        let split = high_split (encode char) (encodes chars) marks (AreHigh-encode char high) each reads in
-        subst IsUtf8 (sym split.spells) (IsUtf8-encode_append char (spelled split.rest) parts.0 (spelled_chars chars split.rest parts.1 split.each split.reads))
+          let split = high_split (encode char) (encodes chars) marks (AreHigh-encode char high) each reads in
+          subst IsUtf8 (sym split.spells) (IsUtf8-encode_append char (spelled split.rest) parts.0 (spelled_chars chars split.rest parts.1 split.each split.reads))
     ]
   where
     spelled_low : (char : ℕ) (chars : List ℕ) (marks : List Mark) → scalars chars ≡ true → char < 128 → AllPass is_spellable marks → char ∷ encodes chars ≡ read_as marks → ((marks : List Mark) → scalars chars ≡ true → AllPass is_spellable marks → encodes chars ≡ read_as marks → IsUtf8 (spelled marks)) → IsUtf8 (spelled marks)
@@ -162,7 +162,7 @@ letter_of-no_feed byte =
     elim (cases_Bool (byte == 10)) [
       | inl is ↦ rw is refl
       | inr no_feed ↦ rw no_feed (cond_both (byte == 9) 116 (cond (byte == 32) 87 byte) (λ n. (n == 10) ≡ false) (λ _. refl)
-        (λ _. cond_both (byte == 32) 87 byte (λ n. (n == 10) ≡ false) (λ _. refl) (λ _. no_feed)))
+          (λ _. cond_both (byte == 32) 87 byte (λ n. (n == 10) ≡ false) (λ _. refl) (λ _. no_feed)))
     ]
 
 letter_of-no_return : (byte : ℕ) → (byte == 13) ≡ false → (letter_of byte == 13) ≡ false

@@ -33,9 +33,10 @@ pub utf8_cut : (xs ys : List ℕ) → StartsLow ys → IsUtf8 (xs ++ ys) → IsU
 utf8_cut xs [] low is = (subst IsUtf8 (append-nil xs) is, IsUtf8-nil)
 utf8_cut xs (byte ∷ ys) low is =
     let here : length xs < length (xs ++ byte ∷ ys) = omega (arith, length-append xs (byte ∷ ys)) in
-    let edge = IsCharBoundary-before_ascii (xs ++ byte ∷ ys) (length xs) here (subst (λ (n : ℕ). n < 128) (sym (get_or-append_seam xs byte ys 0)) low) in
-    (subst IsUtf8 (take-append_seam xs (byte ∷ ys)) (IsUtf8-take (xs ++ byte ∷ ys) (length xs) is edge),
-     subst IsUtf8 (drop-append_seam xs (byte ∷ ys)) (IsUtf8-drop (xs ++ byte ∷ ys) (length xs) is edge))
+    let edge = IsCharBoundary-before_ascii (xs ++ byte ∷ ys) (length xs) here (subst (λ (n : ℕ). n < 128) (sym (get_or-append_seam xs byte ys 0)) low) in (
+      subst IsUtf8 (take-append_seam xs (byte ∷ ys)) (IsUtf8-take (xs ++ byte ∷ ys) (length xs) is edge),
+      subst IsUtf8 (drop-append_seam xs (byte ∷ ys)) (IsUtf8-drop (xs ++ byte ∷ ys) (length xs) is edge),
+    )
 
 none_parts : (p : ℕ → Bool) (xs ys : List ℕ) → list_any p (xs ++ ys) ≡ false → (list_any p xs ≡ false) × (list_any p ys ≡ false)
 none_parts p xs ys none = or_parts (list_any p xs) (list_any p ys) (sym (list_any-append p xs ys) ∙ none)
@@ -53,9 +54,10 @@ pub line_cut : (xs ys : List ℕ) → StartsLow ys → IsLine (xs ++ ys) → IsL
 line_cut xs ys low is =
     let utf8 = utf8_cut xs ys low is.utf8 in
     let no_line_feed = none_parts is_line_feed xs ys is.no_line_feed in
-    let no_return = none_parts is_return xs ys is.no_return in
-    (record { utf8 = utf8.0; no_line_feed = no_line_feed.0; no_return = no_return.0 },
-     record { utf8 = utf8.1; no_line_feed = no_line_feed.1; no_return = no_return.1 })
+    let no_return = none_parts is_return xs ys is.no_return in (
+      record { utf8 = utf8.0; no_line_feed = no_line_feed.0; no_return = no_return.0 },
+      record { utf8 = utf8.1; no_line_feed = no_line_feed.1; no_return = no_return.1 },
+    )
 
 pub line_front : (byte : ℕ) (bytes : List ℕ) → byte < 128 → IsLine (byte ∷ bytes) → IsLine bytes
 line_front byte bytes low is = record {
@@ -114,8 +116,8 @@ read_escaped char rest is text =
     elim (cases_lt char 128) [
       | inl low ↦ rw (encode_ascii char low) (IsUtf8-byte (meant char) (read_as (marks_of rest)) (meant-low char low) text)
       | inr high ↦
-        let some : 0 < length (encode char) = omega (arith, length-encode char, (len_utf8_bounds char).0) in
-        subst IsUtf8 (sym (read_escaped_high (encode char) rest some (AreHigh-encode char high))) (IsUtf8-encode_append char (read_as (marks_of rest)) is text)
+          let some : 0 < length (encode char) = omega (arith, length-encode char, (len_utf8_bounds char).0) in
+          subst IsUtf8 (sym (read_escaped_high (encode char) rest some (AreHigh-encode char high))) (IsUtf8-encode_append char (read_as (marks_of rest)) is text)
     ]
 
 read_low : (char : ℕ) (rest : List ℕ) → char < 128 → (char == 92) ≡ false → IsUtf8 (read_as (marks_of rest)) → IsUtf8 (read_as (marks_of (char ∷ rest)))
@@ -135,8 +137,8 @@ read_chars (char ∷ []) are =
     let one = (and_parts (scalar char) (scalars []) are).0 in
     elim (cases_Bool (char == 92)) [
       | inl same ↦
-        let is : char ≡ 92 = eqb-true char 92 same in
-        subst (λ (n : ℕ). IsUtf8 (read_as (marks_of (encode n ++ [])))) (sym is) (subst (λ (l : List ℕ). IsUtf8 (read_as (marks_of (l ++ [])))) (sym (encode_ascii 92 (omega arith))) (IsUtf8-byte 92 [] (omega arith) IsUtf8-nil))
+          let is : char ≡ 92 = eqb-true char 92 same in
+          subst (λ (n : ℕ). IsUtf8 (read_as (marks_of (encode n ++ [])))) (sym is) (subst (λ (l : List ℕ). IsUtf8 (read_as (marks_of (l ++ [])))) (sym (encode_ascii 92 (omega arith))) (IsUtf8-byte 92 [] (omega arith) IsUtf8-nil))
       | inr other ↦ read_char char [] one other IsUtf8-nil
     ]
 read_chars (char ∷ next ∷ chars) are =
@@ -144,10 +146,10 @@ read_chars (char ∷ next ∷ chars) are =
     let later = and_parts (scalar next) (scalars chars) parts.1 in
     elim (cases_Bool (char == 92)) [
       | inl same ↦
-        let is : char ≡ 92 = eqb-true char 92 same in
-        subst (λ (n : ℕ). IsUtf8 (read_as (marks_of (encode n ++ encodes (next ∷ chars))))) (sym is)
-        (subst (λ (l : List ℕ). IsUtf8 (read_as (marks_of (l ++ encodes (next ∷ chars))))) (sym (encode_ascii 92 (omega arith)))
-        (read_escaped next (encodes chars) later.0 (read_chars chars later.1)))
+          let is : char ≡ 92 = eqb-true char 92 same in
+          subst (λ (n : ℕ). IsUtf8 (read_as (marks_of (encode n ++ encodes (next ∷ chars))))) (sym is)
+          (subst (λ (l : List ℕ). IsUtf8 (read_as (marks_of (l ++ encodes (next ∷ chars))))) (sym (encode_ascii 92 (omega arith)))
+          (read_escaped next (encodes chars) later.0 (read_chars chars later.1)))
       | inr other ↦ read_char char (encodes (next ∷ chars)) parts.0 other (read_chars (next ∷ chars) parts.1)
     ]
 

@@ -6,6 +6,8 @@
 mod clause;
 mod line;
 mod print_laws;
+#[cfg(test)]
+mod print_tests;
 mod printer;
 mod reader;
 

@@ -24,7 +24,7 @@ pub fn print_clause(alloc: Global, clause: &Clause, out: &mut Vec<u8>) -> Result
 
 /// The line of a clause.
 #[tactic(auto, unfolding(crate::specs::Printing::clause_text))]
-fn clause_text(alloc: Global, clause: &Clause) -> Result<Vec<u8>, NoMemory>
+pub fn clause_text(alloc: Global, clause: &Clause) -> Result<Vec<u8>, NoMemory>
     ensures { IfOk result (λ line. line.items ≡ spec.clause_text clause.now) }
 {
     let value = value_text(alloc, &clause.value)?;
