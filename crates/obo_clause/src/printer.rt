@@ -80,7 +80,8 @@ fn value_text(alloc: Global, value: &Value) -> Result<Vec<u8>, NoMemory>
 
 /// Appends two words.
 fn push_pair(out: &mut Vec<u8>, first: &Bytes, second: &Bytes) -> Result<(), NoMemory>
-    ensures { OnOk result (out.new.items ≡ out.old.items ++ (spec.word_text first.now ++ spec.space ++ spec.word_text second.now)) }
+    ensures { OnOk result (out.new.items ≡ out.old.items
+        ++ (spec.word_text first.now ++ spec.space ++ spec.word_text second.now)) }
 {
     push_word(out, first.as_slice())?;
     out.push(b' ')?;
@@ -101,7 +102,8 @@ fn push_bool(out: &mut Vec<u8>, truth: bool) -> Result<(), NoMemory>
 
 /// Appends a definition.
 fn push_def(out: &mut Vec<u8>, text: &Bytes, xrefs: &Items<Xref>) -> Result<(), NoMemory>
-    ensures { OnOk result (out.new.items ≡ out.old.items ++ (spec.quoted_text text.now ++ (spec.space ++ spec.list_text xrefs.now))) }
+    ensures { OnOk result (out.new.items ≡ out.old.items
+        ++ (spec.quoted_text text.now ++ (spec.space ++ spec.list_text xrefs.now))) }
 {
     push_quoted(out, text.as_slice())?;
     out.push(b' ')?;
@@ -160,7 +162,8 @@ fn push_literal(
     datatype: &Bytes,
 ) -> Result<(), NoMemory>
     ensures { OnOk result (out.new.items ≡ out.old.items
-        ++ (spec.word_text relation.now ++ spec.space ++ spec.quoted_text text.now ++ (spec.space ++ spec.word_text datatype.now))) }
+        ++ (spec.word_text relation.now ++ spec.space ++ spec.quoted_text text.now
+        ++ (spec.space ++ spec.word_text datatype.now))) }
 {
     push_described(out, relation, text)?;
     out.push(b' ')?;
@@ -169,7 +172,8 @@ fn push_literal(
 
 /// Appends an id and a quoted text.
 fn push_described(out: &mut Vec<u8>, id: &Bytes, text: &Bytes) -> Result<(), NoMemory>
-    ensures { OnOk result (out.new.items ≡ out.old.items ++ (spec.word_text id.now ++ spec.space ++ spec.quoted_text text.now)) }
+    ensures { OnOk result (out.new.items ≡ out.old.items
+        ++ (spec.word_text id.now ++ spec.space ++ spec.quoted_text text.now)) }
 {
     push_word(out, id.as_slice())?;
     out.push(b' ')?;
@@ -208,7 +212,8 @@ fn push_list(out: &mut Vec<u8>, xrefs: &[Xref]) -> Result<(), NoMemory>
 
 /// Appends the entries of an xref list behind its first one, each with a comma before it.
 fn push_other_xrefs(out: &mut Vec<u8>, xrefs: &[Xref]) -> Result<(), NoMemory>
-    ensures { OnOk result (out.new.items ≡ out.old.items ++ flat_map (λ xref. codes ", " ++ spec.xref_text xref) xrefs.now) }
+    ensures { OnOk result (out.new.items ≡ out.old.items
+        ++ flat_map (λ xref. codes ", " ++ spec.xref_text xref) xrefs.now) }
 {
     for xref in xrefs {
         push_other_xref(out, xref)?;
