@@ -1,14 +1,9 @@
 -- Values and whole lines, as they are printed: a clause whose parts are as they have to be is spelled by its printed line.
 use Rattle.std.proofs.Common.{◌≡◌, ℕ, ◌<◌, ◌≤◌, ◌==◌, Bool, true, false, not, ◌&&◌, ◌||◌, nat_lt, List, [], ◌∷◌, ◌++◌, Option, None, Some, codes, length, refl, sym, ap, subst, ◌∙◌, inl, inr, ⊎_elim, append_assoc, append-nil, arith}
-use Rattle.std.specs.Char.{is_ascii_alphanumeric}
-use Rattle.std.specs.List.{All, AllPass, list_all, list_any}
-use Rattle.std.specs.Str.{IsUtf8}
+use Rattle.std.specs.List.{All, AllPass, list_all}
 use Rattle.std.proofs.lemmas.Bool.{agree_below_at, and_cases, and_from, and_parts, both_ways, cases_lt, ltb-true, not-false, not-true, or_from, or_parts}
 use Rattle.std.proofs.lemmas.Bool.Decides.{nat_tests}
-use Rattle.std.proofs.lemmas.List.Elements.{All-cons, All-head, All-nil, All-tail, All-weaker}
-use Rattle.std.proofs.lemmas.List.Folds.{list_any_none}
-use Rattle.std.proofs.lemmas.Str.{IsUtf8-nil}
-use Rattle.obo_lexer.specs.Lines.{is_line_feed, is_return}
+use Rattle.std.proofs.lemmas.List.Elements.{All-cons, All-head, All-nil, All-tail}
 use Rattle.obo_lexer.specs.Tokens.{is_blank}
 use Rattle.obo_tags.specs.declared.kind.FrameKind.{FrameKind}
 use Rattle.obo_tags.specs.declared.kind.ValueShape.{ValueShape}
@@ -21,16 +16,16 @@ use Rattle.obo_clause.specs.declared.clause.Value.{Value}
 use Rattle.obo_clause.specs.declared.clause.Value.TheVariants as value
 use Rattle.obo_clause.specs.declared.clause.Xref.{Xref}
 use Rattle.obo_clause.specs.Grammar.{AreBlanks, IsEnding, IsQuoted, IsWord, IsXrefList}
-use Rattle.obo_clause.specs.Marks.{Mark, bare, marks_of, read_as}
+use Rattle.obo_clause.specs.Marks.{Mark, marks_of}
 use Rattle.obo_clause.specs.PrintLaws.{FitBehind, Fits, FitsQualifier, FitsShape, FitsXref, IsLineOf, IsRawText, IsText, IsWordOrNone, IsWordText}
 use Rattle.obo_clause.specs.Printing.{behind_space, block_text, clause_text, is_escaped_in_word, list_text, quoted_text, run_text, scope_text, space, type_text, value_text, word_text, xref_text}
 use Rattle.obo_clause.specs.Spelled.{IsLine, IsSpelledAs}
 use Rattle.obo_clause.specs.Spelling.{IsContent, IsMoreList, IsMoreWord, IsRun, IsScoped, IsSecondWord, IsTagged, IsTypeScope, IsValue, Says, Spells, bool_word, scope_word, shape_at}
 use Rattle.obo_clause.specs.Spelling as spelling
-use Rattle.obo_clause.specs.Vocabulary.{is_one_of, is_space, is_tag_byte, is_word_mark}
+use Rattle.obo_clause.specs.Vocabulary.{is_space, is_tag_byte}
 use Rattle.obo_clause.proofs.SpelledMarks.{IsMarked, IsUtf8-byte}
-use Rattle.obo_clause.proofs.PrintedParts.{Are, IsBound, IsGap, IsLine-append, IsLine-nil, Prints, Prints-append, Prints-nil, Prints-sign, Prints-weaker, free_inner, prints_space, prints_word, trimmed_unspaced}
-use Rattle.obo_clause.proofs.PrintedRuns.{IsBehindId, IsRunAnywhere, IsXrefAt, prints_list, prints_quoted, prints_run, prints_xref}
+use Rattle.obo_clause.proofs.PrintedParts.{IsGap, IsLine-append, IsLine-nil, Prints, Prints-append, Prints-nil, Prints-weaker, free_inner, prints_space, prints_word, trimmed_unspaced}
+use Rattle.obo_clause.proofs.PrintedRuns.{IsRunAnywhere, IsXrefAt, prints_list, prints_quoted, prints_run, prints_xref}
 use Rattle.obo_clause.proofs.PrintedBlocks.{prints_ending}
 
 -- ---- bytes of ASCII that stand in lines

@@ -1,22 +1,20 @@
 -- The parts of a printed line: each is written for marks that are the part.
-use Rattle.std.proofs.Common.{◌≡◌, ℕ, ◌<◌, ◌==◌, Bool, true, false, not, ◌&&◌, ◌||◌, nat_lt, List, [], ◌∷◌, ◌++◌, Option, None, Some, codes, length, map, refl, sym, ap, subst, ◌∙◌, inl, inr, append_assoc, append-nil, arith}
-use Rattle.std.specs.List.{All, AllPass, flat_map, join_by, list_all, list_any}
-use Rattle.std.specs.Str.{IsUtf8}
-use Rattle.std.proofs.lemmas.Bool.{both_ways, cases_Bool, eqb-true, false_from_ne_true, not-true, not_from_false, or_cases, or_from, or_parts}
-use Rattle.std.proofs.lemmas.List.Elements.{All-append, All-cons, All-head, All-nil, All-tail}
+use Rattle.std.proofs.Common.{◌≡◌, ℕ, ◌<◌, ◌==◌, Bool, true, false, not, ◌&&◌, ◌||◌, nat_lt, List, [], ◌∷◌, ◌++◌, codes, length, map, refl, sym, ap, subst, ◌∙◌, inl, inr, arith}
+use Rattle.std.specs.List.{AllPass, flat_map, list_all}
+use Rattle.std.proofs.lemmas.Bool.{both_ways, cases_Bool, eqb-true, false_from_ne_true, not-true, not_from_false, or_cases, or_from}
+use Rattle.std.proofs.lemmas.List.Elements.{All-cons, All-head, All-nil, All-tail}
 use Rattle.std.proofs.lemmas.List.Folds.{list_any-append}
 use Rattle.std.proofs.lemmas.Str.{IsUtf8-append, IsUtf8-nil}
 use Rattle.obo_lexer.specs.Lines.{is_line_feed, is_return}
 use Rattle.obo_lexer.specs.Tokens.{is_blank}
 use Rattle.obo_clause.specs.declared.clause.Qualifier.{Qualifier}
-use Rattle.obo_clause.specs.declared.clause.Xref.{Xref}
 use Rattle.obo_clause.specs.Grammar.{AreBlanks, AreQualifiers, AreSlots, AreTrimmed, IsBlock, IsComment, IsEnding, IsEntry, IsFree, IsKey, IsLabel, IsQualifier, IsQuoted, IsSlot, IsTrimmed, IsWord, IsXrefList}
 use Rattle.obo_clause.specs.Grammar as grammar
-use Rattle.obo_clause.specs.Marks.{Mark, bare, marks_of, meant, read_as}
-use Rattle.obo_clause.specs.PrintLaws.{FitsQualifier, FitsXref, IsText, IsTextOrNone, IsWordText}
-use Rattle.obo_clause.specs.Printing.{block_text, is_end, is_escaped_in_quotes, is_escaped_in_run, is_escaped_in_word, label_text, letter_of, list_text, qualifier_text, quoted_text, run_text, spelled_byte, word_text, xref_text}
+use Rattle.obo_clause.specs.Marks.{Mark, bare, meant, read_as}
+use Rattle.obo_clause.specs.PrintLaws.{IsText, IsWordText}
+use Rattle.obo_clause.specs.Printing.{is_escaped_in_word, letter_of, spelled_byte, word_text}
 use Rattle.obo_clause.specs.Spelled.{IsLine}
-use Rattle.obo_clause.specs.Vocabulary.{block_close, block_open, comma, equals, exclamation, is_bare, is_entry_mark, is_key_mark, is_one_of, is_quoted_mark, is_space, is_word_mark, list_close, list_open, quote}
+use Rattle.obo_clause.specs.Vocabulary.{block_close, block_open, exclamation, is_bare, is_entry_mark, is_one_of, is_quoted_mark, is_space, is_word_mark}
 use Rattle.obo_clause.proofs.SpelledMarks.{IsLine-spelled, IsMarked, IsMarked-append, IsMarked-nil, IsMarked-sign, IsMarked-spelled, IsUtf8-byte, is_one_of-passes, is_spellable, spelled}
 
 -- ---- what may stand in a line

@@ -1,22 +1,19 @@
 -- Runs of characters, quoted texts and what is made of these, as they are printed: xref lists and blocks of qualifiers.
-use Rattle.std.proofs.Common.{◌≡◌, ℕ, ◌<◌, ◌==◌, Bool, true, false, not, ◌&&◌, ◌||◌, nat_lt, List, [], ◌∷◌, ◌++◌, Option, None, Some, codes, length, map, refl, sym, ap, subst, ◌∙◌, inl, inr, append_assoc, append-nil, arith}
-use Rattle.std.specs.List.{All, AllPass, flat_map, join_by, list_any}
-use Rattle.std.proofs.lemmas.Bool.{and_parts, both_ways, cases_Bool, eqb-true, not-true, not_from_false, or_cases, or_from, or_left, or_parts, or_right}
-use Rattle.std.proofs.lemmas.List.Elements.{All-append, All-cons, All-head, All-nil, All-tail}
-use Rattle.obo_lexer.specs.Lines.{is_line_feed, is_return}
+use Rattle.std.proofs.Common.{◌≡◌, ℕ, ◌==◌, Bool, true, false, ◌&&◌, ◌||◌, nat_lt, List, [], ◌∷◌, ◌++◌, Option, None, Some, codes, refl, sym, ap, subst, ◌∙◌, inl, inr, append_assoc, append-nil, arith}
+use Rattle.std.specs.List.{All, AllPass, flat_map, join_by}
+use Rattle.std.proofs.lemmas.Bool.{and_parts, eqb-true, not-true, or_cases, or_right}
+use Rattle.std.proofs.lemmas.List.Elements.{All-cons, All-head, All-nil, All-tail}
 use Rattle.obo_lexer.specs.Tokens.{is_blank}
-use Rattle.obo_clause.specs.declared.clause.Qualifier.{Qualifier}
 use Rattle.obo_clause.specs.declared.clause.Xref.{Xref}
 use Rattle.obo_clause.specs.Grammar.{AreBlanks, AreQualifiers, AreSlots, AreTrimmed, IsBlock, IsComment, IsEnding, IsEntry, IsKey, IsLabel, IsQualifier, IsQuoted, IsSlot, IsTrimmed, IsWord, IsXrefList}
 use Rattle.obo_clause.specs.Grammar as grammar
-use Rattle.obo_clause.specs.Marks.{Mark, bare, meant, read_as}
-use Rattle.obo_clause.specs.PrintLaws.{FitsQualifier, FitsXref, IsText, IsTextOrNone, IsWordText}
-use Rattle.obo_clause.specs.Printing.{block_text, is_end, is_escaped_in_quotes, is_escaped_in_run, label_text, letter_of, list_text, qualifier_text, quoted_text, run_text, spelled_byte, word_text, xref_text}
-use Rattle.obo_clause.specs.Spelled.{IsLine}
+use Rattle.obo_clause.specs.Marks.{Mark, meant, read_as}
+use Rattle.obo_clause.specs.PrintLaws.{FitsXref, IsText, IsTextOrNone}
+use Rattle.obo_clause.specs.Printing.{is_end, is_escaped_in_quotes, is_escaped_in_run, label_text, letter_of, list_text, quoted_text, run_text, spelled_byte, word_text, xref_text}
 use Rattle.obo_clause.specs.Spelling.{IsRun}
-use Rattle.obo_clause.specs.Vocabulary.{block_close, block_open, comma, equals, is_bare, is_entry_mark, is_key_mark, is_one_of, is_quoted_mark, is_space, list_close, list_open, quote}
-use Rattle.obo_clause.proofs.SpelledMarks.{IsMarked, is_one_of-passes, is_spellable, spelled}
-use Rattle.obo_clause.proofs.PrintedParts.{AllPass-map, Are, IsBound, IsEscaping, IsGap, Prints, Prints-append, Prints-nil, Prints-sign, Prints-weaker, blank_cases, free_inner, is_inner, mark_by, never_bare, other_byte, prints_bound, prints_by, prints_marks, prints_space, prints_word, read_as-map, spellable_by, trimmed_unspaced}
+use Rattle.obo_clause.specs.Vocabulary.{comma, is_one_of, is_quoted_mark, is_space, list_close, list_open, quote}
+use Rattle.obo_clause.proofs.SpelledMarks.{is_one_of-passes, is_spellable, spelled}
+use Rattle.obo_clause.proofs.PrintedParts.{AllPass-map, Are, IsBound, IsEscaping, IsGap, Prints, Prints-append, Prints-nil, Prints-sign, Prints-weaker, blank_cases, free_inner, is_inner, mark_by, never_bare, prints_bound, prints_by, prints_marks, prints_space, read_as-map, spellable_by, trimmed_unspaced}
 
 -- ---- runs
 

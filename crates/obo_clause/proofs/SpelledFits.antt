@@ -1,13 +1,11 @@
 -- What a line spells has parts as they have to be: from the grammar, part by part.
-use Rattle.std.proofs.Common.{◌≡◌, ◌⊎◌, ℕ, ◌<◌, Bool, true, false, not, ◌&&◌, ◌||◌, List, [], ◌∷◌, ◌++◌, Option, None, Some, codes, length, map, unwrap_or, refl, sym, ap, subst, ◌∙◌, inl, inr, append_assoc, append-nil, arith}
-use Rattle.std.specs.List.{All, AllPass, list_all}
+use Rattle.std.proofs.Common.{◌≡◌, ◌⊎◌, ℕ, ◌<◌, Bool, true, not, List, [], ◌∷◌, ◌++◌, Option, None, Some, length, unwrap_or, refl, sym, ap, subst, ◌∙◌, inl, inr, append_assoc, append-nil, arith}
+use Rattle.std.specs.List.{All, AllPass}
 use Rattle.std.proofs.lemmas.Bool.{and_parts}
 use Rattle.std.proofs.lemmas.List.{length-map}
 use Rattle.std.proofs.lemmas.List.Elements.{All-append, All-cons, All-head, All-nil, All-tail}
-use Rattle.obo_lexer.specs.Tokens.{is_blank}
 use Rattle.obo_tags.specs.declared.kind.FrameKind.{FrameKind}
 use Rattle.obo_tags.specs.declared.kind.ValueShape.{ValueShape}
-use Rattle.obo_tags.specs.declared.kind.ValueShape.TheVariants as shapes
 use Rattle.obo_clause.specs.declared.clause.Clause.{Clause}
 use Rattle.obo_clause.specs.declared.clause.Qualifier.{Qualifier}
 use Rattle.obo_clause.specs.declared.clause.Scope.{Scope}
@@ -15,12 +13,12 @@ use Rattle.obo_clause.specs.declared.clause.Value.{Value}
 use Rattle.obo_clause.specs.declared.clause.Xref.{Xref}
 use Rattle.obo_clause.specs.Grammar.{AreBlanks, AreQualifiers, AreSlots, IsBlock, IsComment, IsEnding, IsEntry, IsKey, IsLabel, IsQualifier, IsQuoted, IsSlot, IsUnquoted, IsWord, IsXrefList}
 use Rattle.obo_clause.specs.Grammar as grammar
-use Rattle.obo_clause.specs.Marks.{Mark, bare, marks_of, read_as}
-use Rattle.obo_clause.specs.PrintLaws.{FitBehind, Fits, FitsQualifier, FitsShape, FitsXref, IsRawText, IsText, IsTextOrNone, IsWordOrNone, IsWordText}
+use Rattle.obo_clause.specs.Marks.{Mark, bare, read_as}
+use Rattle.obo_clause.specs.PrintLaws.{FitBehind, Fits, FitsQualifier, FitsShape, FitsXref, IsText, IsTextOrNone, IsWordOrNone, IsWordText}
 use Rattle.obo_clause.specs.Spelled.{IsLine, IsSpelledAs}
 use Rattle.obo_clause.specs.Spelling.{IsContent, IsMoreList, IsMoreWord, IsScoped, IsSecondWord, IsTagged, IsTypeScope, IsValue, shape_at, text_datatype}
 use Rattle.obo_clause.specs.Spelling as spelling
-use Rattle.obo_clause.specs.Vocabulary.{block_close, block_open, comma, equals, is_key_mark, is_space, list_close, list_open, quote}
+use Rattle.obo_clause.specs.Vocabulary.{block_close, block_open, comma, equals, is_key_mark, list_close, list_open, quote}
 use Rattle.obo_clause.proofs.PrintedLines.{IsLine-constant, is_line_byte, text_of_line}
 use Rattle.obo_clause.proofs.TextCuts.{LowStart, Sound, line_behind_blanks, line_cut, line_front, low_blanks, low_gap, sound_behind_blanks, sound_cut, sound_front, sound_line, starts_low_blanks}
 

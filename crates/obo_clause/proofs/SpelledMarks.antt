@@ -1,15 +1,14 @@
 -- Marks, and the bytes that are written for them, which are read as these marks again.
-use Rattle.std.proofs.Common.{◌≡◌, ℕ, ◌<◌, ◌≤◌, ◌+◌, ◌/◌, ◌%◌, ◌==◌, Bool, true, false, not, cond, if◌then◌else◌, ◌&&◌, ◌||◌, nat_lt, List, [], ◌∷◌, ◌++◌, map, refl, sym, ap, subst, ◌∙◌, inl, inr, append_assoc, arith}
-use Rattle.std.specs.List.{All, AllPass, flat_map, list_all, list_any}
+use Rattle.std.proofs.Common.{◌≡◌, ℕ, ◌<◌, ◌≤◌, ◌==◌, Bool, true, false, not, cond, if◌then◌else◌, ◌&&◌, ◌||◌, nat_lt, List, [], ◌∷◌, ◌++◌, refl, sym, ap, subst, ◌∙◌, inl, inr, append_assoc, arith}
+use Rattle.std.specs.List.{AllPass, flat_map, list_all, list_any}
 use Rattle.std.specs.Str.{IsUtf8}
 use Rattle.std.proofs.Math.Utf8.{encode, encodes, scalar, scalars, low_scalar}
-use Rattle.std.proofs.lemmas.Bool.{and_from, and_parts, both_ways, cases_Bool, cases_lt, cond_both, eqb-true, ltb-true, ne_eqb, not-true, or_cases, or_from, or_parts}
-use Rattle.std.proofs.lemmas.Bool.Decides.{nat_tests}
-use Rattle.std.proofs.lemmas.List.Elements.{All-cons, All-head, All-nil, All-tail}
+use Rattle.std.proofs.lemmas.Bool.{and_from, and_parts, both_ways, cases_Bool, cases_lt, cond_both, eqb-true, ltb-true, not-true, or_cases, or_from, or_parts}
+use Rattle.std.proofs.lemmas.List.Elements.{All-head, All-tail}
 use Rattle.std.proofs.lemmas.List.Folds.{list_any-append}
-use Rattle.std.proofs.lemmas.Str.{IsUtf8-append, IsUtf8-nil, encode_ascii}
+use Rattle.std.proofs.lemmas.Str.{IsUtf8-nil, encode_ascii}
 use Rattle.obo_lexer.specs.Lines.{is_line_feed, is_return}
-use Rattle.obo_clause.specs.Marks.{Mark, bare, escaped, marks_of, meant, read_as}
+use Rattle.obo_clause.specs.Marks.{Mark, bare, marks_of, meant, read_as}
 use Rattle.obo_clause.specs.PrintLaws.{IsText}
 use Rattle.obo_clause.specs.Printing.{letter_of, spelled_byte}
 use Rattle.obo_clause.specs.Spelled.{IsLine}

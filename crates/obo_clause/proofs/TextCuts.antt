@@ -1,5 +1,5 @@
 -- Texts cut at bytes of ASCII: their parts are texts. A line that is read as marks is a text as it is read.
-use Rattle.std.proofs.Common.{◌≡◌, ℕ, ◌<◌, ◌≤◌, ◌+◌, ◌==◌, Bool, true, false, cond, not, ◌&&◌, ◌||◌, List, [], ◌∷◌, ◌++◌, length, length-append, map, take, drop, get_or, refl, sym, ap, subst, ◌∙◌, inl, inr, append_assoc, append-nil, arith}
+use Rattle.std.proofs.Common.{◌≡◌, ℕ, ◌<◌, ◌≤◌, ◌==◌, Bool, true, false, cond, not, List, [], ◌∷◌, ◌++◌, length, length-append, refl, sym, ap, subst, ◌∙◌, inl, inr, append-nil, arith}
 use Rattle.std.specs.List.{AllPass, list_any}
 use Rattle.std.specs.Str.{IsUtf8}
 use Rattle.std.proofs.Math.Seq.{drop-append_seam, get_or-append_seam, take-append_seam}
@@ -11,7 +11,7 @@ use Rattle.std.proofs.lemmas.List.Folds.{list_any-append}
 use Rattle.std.proofs.lemmas.Str.{IsCharBoundary-after_ascii, IsCharBoundary-before_ascii, IsUtf8-drop, IsUtf8-nil, IsUtf8-take, encode_ascii, len_utf8_bounds, length-encode}
 use Rattle.obo_lexer.specs.Lines.{is_line_feed, is_return}
 use Rattle.obo_lexer.specs.Tokens.{is_blank}
-use Rattle.obo_clause.specs.Marks.{Mark, bare, escaped, marks_of, meant, read_as}
+use Rattle.obo_clause.specs.Marks.{Mark, marks_of, meant, read_as}
 use Rattle.obo_clause.specs.PrintLaws.{IsText}
 use Rattle.obo_clause.specs.Spelled.{IsLine}
 use Rattle.obo_clause.specs.Grammar.{AreBlanks}

@@ -2,7 +2,7 @@
 use Rattle.std.specs.Prelude.{◌≡◌, ◌<◌, ◌↔◌, ℕ, Bool, false, List, [], Option, None, Some, length}
 use Rattle.std.specs.List.{All, AllPass, list_any}
 use Rattle.std.specs.Str.{IsUtf8}
-use Rattle.obo_lexer.specs.Lines.{is_line_feed, is_return}
+use Rattle.obo_lexer.specs.Lines.{is_return}
 use Rattle.obo_lexer.specs.Tokens.{is_blank}
 use Rattle.obo_tags.specs.declared.kind.FrameKind.{FrameKind}
 use Rattle.obo_tags.specs.declared.kind.ValueShape.{ValueShape}
