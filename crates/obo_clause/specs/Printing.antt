@@ -23,11 +23,12 @@ spelled_byte is_escaped byte = if is_escaped then 92 ∷ letter_of byte ∷ [] e
 unfoldable pub is_escaped_in_word : ℕ → Bool
 is_escaped_in_word byte = is_one_of (10 ∷ 9 ∷ codes " \\\",[]{}!") byte
 
--- in a quoted text
+-- the bytes that it stands before in a quoted text
 unfoldable pub is_escaped_in_quotes : ℕ → Bool
 is_escaped_in_quotes byte = is_one_of (10 ∷ 9 ∷ codes "\\\"") byte
 
--- in a run of characters: a space at an end of the run too, where its first byte and its last one are outer
+-- the bytes that it stands before in a run of characters. The first byte of the run and the last one are outer: a space
+-- there would be no part of the run
 unfoldable pub is_escaped_in_run : Bool → ℕ → Bool
 is_escaped_in_run is_outer byte = is_one_of (10 ∷ 9 ∷ codes "\\{!") byte || (is_outer && (byte == 32))
 
@@ -44,7 +45,7 @@ abbrev pub is_end : List ℕ → Bool
 is_end [] = true
 is_end (byte ∷ bytes) = false
 
--- a part of a run of characters up to its end, as  a \{b}  where the part begins the run or does not
+-- what is left of a run of characters, as  a \{b}  where `begins` says that nothing of the run stands before it
 abbrev pub run_text : Bool → List ℕ → List ℕ
 run_text begins [] = []
 run_text begins (byte ∷ bytes) =

@@ -10,7 +10,8 @@ use crate::{Clause, Qualifier, Scope, Value, Xref};
 use rel_io::{Bytes, Items, NoMemory};
 use std::alloc::Global;
 
-/// Appends the line of a clause, without its end. It takes time in proportion to the line.
+/// Appends the line of a clause, without its end. The line is made whole before, so that `out` stays as it was where no
+/// memory is left. It takes time in proportion to the line.
 pub fn print_clause(alloc: Global, clause: &Clause, out: &mut Vec<u8>) -> Result<(), NoMemory>
     requires spelled { IsSpelled clause.now }
     ensures text { OnOk result (out.new.items ≡ out.old.items ++ spec.clause_text clause.now) }
