@@ -1,1 +1,4 @@
+pub mod FreeLemmas
+pub mod LoopLemmas
 pub mod ScanLemmas
+pub mod ShapeLemmas

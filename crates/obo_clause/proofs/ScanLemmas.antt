@@ -70,7 +70,8 @@ trims-stop {A} passes items place d trims some failed =
     let split : take place items ≡ take (place - 1) items ++ get_or items (place - 1) d ∷ [] = ap (λ n. take n items) (sym e) ∙ take_more items (place - 1) d less in
     split ∙ (sym (trim_end-fails passes (take (place - 1) items) _ failed) ∙ (ap (trim_end passes) (sym split) ∙ trims.same))
 
-pub trims-end : {A : Type 0} (passes : A → Bool) (items : List A) (place : ℕ) → TrimsFrom A passes items place → place ≡ 0 → take place items ≡ trim_end passes items
+pub trims-end : {A : Type 0} (passes : A → Bool) (items : List A) (place : ℕ) → TrimsFrom A passes items place → place ≤ 0 → take place items ≡ trim_end passes items
 unfolding trim_end
-trims-end passes items place trims none =
+trims-end passes items place trims least =
+    let none : place ≡ 0 = omega arith in
     ap (λ n. take n items) none ∙ (ap (λ n. trim_end passes (take n items)) (sym none) ∙ trims.same)

@@ -1,6 +1,6 @@
 -- How values and whole lines are read, as functions: the code goes by these, and they are proved to answer what the line
 -- says, or what is wrong with it. (Own.)
-use Rattle.std.specs.Prelude.{ℕ, ◌==◌, ◌&&◌, Bool, true, false, not, if◌then◌else◌, List, [], ◌∷◌, Option, None, Some, Ok, Err, codes, drop, length, nat_eq, unwrap_or}
+use Rattle.std.specs.Prelude.{◌≡◌, ℕ, ◌==◌, ◌&&◌, Bool, true, false, not, if◌then◌else◌, List, [], ◌∷◌, Option, None, Some, Ok, Err, codes, drop, length, nat_eq, unwrap_or}
 use Rattle.std.specs.Borrow.{Bor}
 use Rattle.std.specs.List.{list_all, starts_with}
 use Rattle.std.specs.Option.{option_map, option_or}
@@ -234,19 +234,32 @@ abbrev pub behind_start : List ℕ → List ℕ → Option (List ℕ)
 behind_start start bytes =
     if starts_with nat_eq bytes start then Some (drop (length start) bytes) else None
 
+-- this is found, with bytes that are lent
+abbrev pub FindsBytes : {A : Type 0} → Option (A × List ℕ) → Option (A × Bor (List ℕ)) → Type 0
+FindsBytes answer None = answer ≡ None
+FindsBytes answer (Some one) = answer ≡ Some (one.0, one.1.now)
+
+-- a name of a frame kind and what stands behind its `]`
+abbrev pub Named : Type 0
+Named = FrameKind × List ℕ
+
+abbrev pub instance_name : List ℕ → Option Named
+instance_name bytes =
+    found (behind_start (codes "Instance]") bytes) None (λ (rest : List ℕ). Some (kind.Instance, rest))
+
+abbrev pub later_name : List ℕ → Option Named
+later_name bytes =
+    found (behind_start (codes "Typedef]") bytes) (instance_name bytes) (λ (rest : List ℕ). Some (kind.Typedef, rest))
+
 -- the frame kind that is named, from behind the `[` on, and what stands behind the `]`
-unfoldable pub frame_name : List ℕ → Option (FrameKind × List ℕ)
+unfoldable pub frame_name : List ℕ → Option Named
 frame_name bytes =
-    found (behind_start (codes "Term]") bytes)
-    (found (behind_start (codes "Typedef]") bytes)
-    (option_map (λ (rest : List ℕ). (kind.Instance, rest)) (behind_start (codes "Instance]") bytes))
-    (λ (rest : List ℕ). Some (kind.Typedef, rest)))
-    (λ (rest : List ℕ). Some (kind.Term, rest))
+    found (behind_start (codes "Term]") bytes) (later_name bytes) (λ (rest : List ℕ). Some (kind.Term, rest))
 
 -- a frame line from behind the `[` on
 unfoldable pub read_frame : List ℕ → Answer Line
 read_frame bytes =
-    next (wanted syntax.BadFrame (frame_name bytes)) (λ (name : FrameKind × List ℕ).
+    next (wanted syntax.BadFrame (frame_name bytes)) (λ (name : Named).
     if is_line_comment (behind is_blank name.1) then Ok (says.Frame name.0) else Err syntax.BadFrame)
 
 -- a line without the blanks at its beginning

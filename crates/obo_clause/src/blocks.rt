@@ -1,5 +1,5 @@
 //! What a line ends with: a block of qualifiers, as `{source="EX:1", is_inferred="true"}`, and a comment.
-ghost use Rattle.std.specs.Prelude.{◌≡◌, IfOk, MatchOption, None, Some, length, suc};
+ghost use Rattle.std.specs.Prelude.{◌≡◌, ◌&&◌, ◌||◌, IfOk, MatchOption, None, Some, is_some, length, suc};
 ghost use Rattle.std.specs.Option.{option_copied, option_map};
 ghost use Rattle.obo_clause.specs.Marks.{read_as};
 ghost use Rattle.obo_clause.specs.Reading as read;
@@ -95,15 +95,16 @@ fn qualifiers_in(
     let mut qualifiers = Vec::new(alloc);
     let mut rest = marks;
     // A qualifier and its comma are at least one mark.
-    for _ in 0..=marks.len() {
-        let Some(field) = field_at(rest) else {
-            return Ok(None);
+    for _ in 0..marks.len() + 1 {
+        let field = match field_at(rest) {
+            None => return Ok(None),
+            Some(field) => field,
         };
         qualifiers.push(qualifier_of(alloc, field.key, field.value)?)?;
-        let Some(more) = behind_sign(b',', field.rest) else {
-            return Ok(block_end(qualifiers, field.rest));
-        };
-        rest = behind_blanks(more);
+        match behind_sign(b',', field.rest) {
+            None => return Ok(block_end(qualifiers, field.rest)),
+            Some(more) => rest = behind_blanks(more),
+        }
     }
     Ok(None)
 }
@@ -168,6 +169,13 @@ pub struct FreeRun<'a> {
     pub qualifiers: Option<Items<Qualifier>>,
 }
 
+/// Whether a run stops before these marks: at an ending, which has qualifiers, or at a `"` if that ends it too.
+fn stops_run(at_quote: bool, qualifiers: &Option<Items<Qualifier>>, marks: &[Mark]) -> bool
+    ensures { result ≡ (is_some qualifiers.now || (at_quote && is_some (read.behind_sign 34 marks.now))) }
+{
+    qualifiers.is_some() || at_quote && behind_sign(b'"', marks).is_some()
+}
+
 /// The run of characters up to an ending, or a `"` if that ends it too.
 pub fn free_run(alloc: Global, at_quote: bool, marks: &[Mark]) -> Result<FreeRun<'_>, NoMemory>
     ensures run { IfOk result (λ found. (found.run.now, found.rest.now) ≡ read.free_run at_quote marks.now) }
@@ -177,7 +185,7 @@ pub fn free_run(alloc: Global, at_quote: bool, marks: &[Mark]) -> Result<FreeRun
     while end < marks.len() {
         let rest = &marks[end..];
         let qualifiers = ending_at(alloc, rest)?;
-        if qualifiers.is_some() || at_quote && behind_sign(b'"', rest).is_some() {
+        if stops_run(at_quote, &qualifiers, rest) {
             return Ok(FreeRun {
                 run: &marks[..end],
                 rest,

@@ -1,9 +1,8 @@
 //! The bytes of a line: which ones are blanks, make a tag, or end a word.
-ghost use Rattle.std.specs.Prelude.{◌≡◌, ◌==◌, ◌||◌, ◌∷◌, codes};
+ghost use Rattle.std.specs.Prelude.{◌≡◌, ◌≤◌, ◌||◌, ◌∷◌, codes, length};
 ghost use Rattle.std.specs.List.{list_all, prefix_len};
-ghost use Rattle.std.specs.Option.{option_map};
 ghost use Rattle.obo_lexer.specs.Tokens.{is_blank};
-ghost use Rattle.obo_clause.specs.Reading.{behind, trim, trim_end};
+ghost use Rattle.obo_clause.specs.Reading.{behind, trim_end};
 ghost use Rattle.obo_clause.specs.ReadingLines.{at_colon, is_before_colon, is_line_comment, is_tag, parts_lent};
 ghost use Rattle.obo_clause.specs.Vocabulary.{is_one_of, is_tag_byte};
 
@@ -62,7 +61,8 @@ pub fn behind_blank_bytes(bytes: &[u8]) -> &[u8]
 
 /// Where the blanks end with which the bytes begin.
 fn blanks_end(bytes: &[u8]) -> usize
-    ensures { result ≡ prefix_len is_blank bytes.now }
+    ensures run { result ≡ prefix_len is_blank bytes.now }
+    ensures within { result ≤ length bytes.now }
 {
     let mut end = 0;
     while end < bytes.len() && is_blank(bytes[end]) {
@@ -96,7 +96,8 @@ pub fn split_at_colon(bytes: &[u8]) -> Option<(&[u8], &[u8])>
 
 /// Where the first colon stands; without one, where the bytes end.
 fn colon_place(bytes: &[u8]) -> usize
-    ensures { result ≡ prefix_len is_before_colon bytes.now }
+    ensures run { result ≡ prefix_len is_before_colon bytes.now }
+    ensures within { result ≤ length bytes.now }
 {
     let mut place = 0;
     while place < bytes.len() && bytes[place] != b':' {

@@ -90,13 +90,13 @@ fn xrefs_in(alloc: Global, marks: &[Mark]) -> Result<(Items<Xref>, &[Mark]), Lin
     let mut xrefs = Vec::new(alloc);
     let mut rest = marks;
     // An entry and its comma are at least one mark.
-    for _ in 0..=marks.len() {
+    for _ in 0..marks.len() + 1 {
         let slot = slot_at(rest)?;
         push_xref(alloc, &mut xrefs, slot.id, slot.label)?;
-        let Some(more) = behind_sign(b',', slot.rest) else {
-            return list_end(xrefs, slot.rest);
-        };
-        rest = more;
+        match behind_sign(b',', slot.rest) {
+            None => return list_end(xrefs, slot.rest),
+            Some(more) => rest = more,
+        }
     }
     Err(LineFault::Syntax(SyntaxKind::XrefList))
 }

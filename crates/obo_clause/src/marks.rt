@@ -118,7 +118,8 @@ fn is_in(class: Class, mark: Mark) -> bool
 
 /// Where the run of the class ends with which the marks begin.
 fn run_end(class: Class, marks: &[Mark]) -> usize
-    ensures { result ≡ prefix_len (in_class class) marks.now }
+    ensures run { result ≡ prefix_len (in_class class) marks.now }
+    ensures within { result ≤ length marks.now }
 {
     let mut end = 0;
     while end < marks.len() && is_in(class, marks[end]) {

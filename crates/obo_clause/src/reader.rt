@@ -1,10 +1,10 @@
 //! `read_line`: the one answer to a line.
 ghost use Rattle.std.specs.Prelude.{◌≡◌, ◌&&◌, IfErr, IfOk, codes, not};
-ghost use Rattle.std.specs.Option.{option_map};
 ghost use Rattle.std.specs.Str.{bytes_eq};
 ghost use Rattle.obo_clause.specs.Answers.{AnswersWhatFails, AnswersWhatIsSaid, IsFaultOf};
 ghost use Rattle.obo_clause.specs.Reading.{Gives};
 ghost use Rattle.obo_clause.specs.ReadingLines as read;
+ghost use Rattle.obo_clause.specs.ReadingLines.{FindsBytes};
 ghost use Rattle.obo_clause.specs.Spelling.{Says, shape_at};
 
 use crate::bytes::{
@@ -60,18 +60,32 @@ fn read_frame(bytes: &[u8]) -> Result<Line, LineFault>
 /// The frame kind that is named, from behind the `[` on, and what stands behind the `]`.
 #[tactic(auto, unfolding(crate::specs::ReadingLines::frame_name))]
 fn frame_name(bytes: &[u8]) -> Option<(FrameKind, &[u8])>
-    ensures { option_map (λ name. (name.0, name.1.now)) result ≡ read.frame_name bytes.now }
+    ensures { FindsBytes (read.frame_name bytes.now) result }
 {
-    if let Some(rest) = bytes.strip_prefix(b"Term]") {
-        return Some((FrameKind::Term, rest));
+    match bytes.strip_prefix(b"Term]") {
+        None => later_name(bytes),
+        Some(rest) => Some((FrameKind::Term, rest)),
     }
-    if let Some(rest) = bytes.strip_prefix(b"Typedef]") {
-        return Some((FrameKind::Typedef, rest));
+}
+
+/// The same, but for a Term.
+fn later_name(bytes: &[u8]) -> Option<(FrameKind, &[u8])>
+    ensures { FindsBytes (read.later_name bytes.now) result }
+{
+    match bytes.strip_prefix(b"Typedef]") {
+        None => instance_name(bytes),
+        Some(rest) => Some((FrameKind::Typedef, rest)),
     }
-    if let Some(rest) = bytes.strip_prefix(b"Instance]") {
-        return Some((FrameKind::Instance, rest));
+}
+
+/// The same of an Instance alone.
+fn instance_name(bytes: &[u8]) -> Option<(FrameKind, &[u8])>
+    ensures { FindsBytes (read.instance_name bytes.now) result }
+{
+    match bytes.strip_prefix(b"Instance]") {
+        None => None,
+        Some(rest) => Some((FrameKind::Instance, rest)),
     }
-    None
 }
 
 /// A clause line without the blanks at its beginning.
