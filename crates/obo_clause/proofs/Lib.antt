@@ -1,3 +1,5 @@
+pub mod EndingLemmas
+pub mod FieldLemmas
 pub mod FreeLemmas
 pub mod LoopLemmas
 pub mod RunLemmas
