@@ -3,6 +3,7 @@ pub mod FieldLemmas
 pub mod FreeLemmas
 pub mod LoopLemmas
 pub mod RunLemmas
+pub mod RunningText
 pub mod ScanLemmas
 pub mod ShapeLemmas
 pub mod SignLemmas
