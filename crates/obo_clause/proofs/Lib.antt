@@ -1,10 +1,12 @@
 pub mod EndingLemmas
 pub mod FieldLemmas
 pub mod FreeLemmas
+pub mod ListLemmas
 pub mod LoopLemmas
 pub mod RunLemmas
 pub mod RunningText
 pub mod ScanLemmas
 pub mod ShapeLemmas
 pub mod SignLemmas
+pub mod SlotLemmas
 pub mod WordLemmas
