@@ -9,4 +9,5 @@ pub mod ScanLemmas
 pub mod ShapeLemmas
 pub mod SignLemmas
 pub mod SlotLemmas
+pub mod TailLemmas
 pub mod WordLemmas
