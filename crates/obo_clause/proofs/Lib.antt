@@ -10,4 +10,5 @@ pub mod ShapeLemmas
 pub mod SignLemmas
 pub mod SlotLemmas
 pub mod TailLemmas
+pub mod ValuesFound
 pub mod WordLemmas
