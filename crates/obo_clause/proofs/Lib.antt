@@ -1,4 +1,5 @@
 pub mod EndingLemmas
+pub mod FaultLemmas
 pub mod FieldLemmas
 pub mod FreeLemmas
 pub mod ListLemmas
@@ -11,4 +12,5 @@ pub mod SignLemmas
 pub mod SlotLemmas
 pub mod TailLemmas
 pub mod ValuesFound
+pub mod ValuesRead
 pub mod WordLemmas
