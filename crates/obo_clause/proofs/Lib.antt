@@ -14,3 +14,4 @@ pub mod TailLemmas
 pub mod ValuesFound
 pub mod ValuesRead
 pub mod WordLemmas
+pub mod XrefFaults
