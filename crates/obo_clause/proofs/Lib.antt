@@ -1,3 +1,4 @@
+pub mod ContentLemmas
 pub mod EndingLemmas
 pub mod FaultLemmas
 pub mod FieldLemmas
@@ -10,6 +11,7 @@ pub mod ScanLemmas
 pub mod ShapeLemmas
 pub mod SignLemmas
 pub mod SlotLemmas
+pub mod TagLemmas
 pub mod TailLemmas
 pub mod ValuesFound
 pub mod ValuesRead
