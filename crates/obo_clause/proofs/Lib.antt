@@ -1,8 +1,10 @@
+pub mod AnswerLemmas
 pub mod ContentLemmas
 pub mod EndingLemmas
 pub mod FaultLemmas
 pub mod FieldLemmas
 pub mod FreeLemmas
+pub mod LineLemmas
 pub mod ListLemmas
 pub mod LoopLemmas
 pub mod RunLemmas
