@@ -3,15 +3,28 @@
 //! clause that was read is printed as a line that spells it again.
 #![tactic(auto)]
 
+mod blocks;
+mod bytes;
 mod clause;
+mod laws;
 mod line;
 mod print_laws;
 #[cfg(test)]
 mod print_tests;
 mod printer;
+mod lists;
+mod marks;
 mod reader;
+mod runs;
+mod scopes;
+#[cfg(test)]
+mod tests;
+mod values;
 
 pub use clause::{Clause, Qualifier, Scope, Value, Xref};
+pub use laws::{
+    line_fails_one_way, line_has_answer, line_never_says_and_fails, line_says_one_thing,
+};
 pub use line::{Line, LineFault, SyntaxKind};
 pub use print_laws::{printed_line_spells_again, spelled_clauses_fit};
 pub use printer::print_clause;
