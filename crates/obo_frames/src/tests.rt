@@ -1,0 +1,1 @@
+//! Documents of small files, with answers worked out by hand from the rules.
