@@ -1,0 +1,4 @@
+pub mod PlacingLemmas
+pub mod LeastLemmas
+pub mod ReadingLemmas
+pub mod GroupLemmas

@@ -78,7 +78,7 @@ operands_in tag name placed = filter_map (operand_in tag name) placed
 
 -- the two stand in one group, for different expressions
 abbrev pub differs : Operand → Operand → Bool
-differs one other = bytes_eq one.group other.group && not (same_expression one.expression other.expression)
+differs one other = bytes_eq other.group one.group && not (same_expression one.expression other.expression)
 
 -- the clauses of short groups: no other of the same group stands for another expression
 abbrev pub short_in : List Operand → List Operand
