@@ -1,5 +1,5 @@
 -- A group that comes to one expression is one in which no clause stands for another.
-use Rattle.std.proofs.Common.{◌≡◌, ◌⊎◌, inl, inr, ℕ, Bool, true, false, not, ◌&&◌, List, [], ◌∷◌, Option, None, Some, ap, cond, refl, subst, sym, ◌∙◌, codes, map, ◌++◌, ◌||◌}
+use Rattle.std.proofs.Common.{◌≡◌, inl, inr, ℕ, Bool, true, false, not, ◌&&◌, List, [], ◌∷◌, Option, None, Some, ap, cond, refl, sym, ◌∙◌, codes, map, ◌++◌, ◌||◌}
 use Rattle.std.specs.Prelude.{filter}
 use Rattle.std.specs.Cmp.Lexicographic.{slice_cmp}
 use Rattle.std.specs.List.{list_any}
@@ -9,8 +9,8 @@ use Rattle.std.proofs.lemmas.Bool.{and_parts, false_from_ne_true, false≢true}
 use Rattle.std.proofs.lemmas.Map.Text.{is_eq-slice_cmp}
 use Rattle.std.proofs.lemmas.Slice.Eq.{bytes_eq-Decides}
 use Rattle.obo_frames.specs.Documents.{least_line}
-use Rattle.obo_frames.specs.Groups.{differs, name_of, operands_in, same_expression, short_in, short_lines, short_lines_of}
-use Rattle.obo_frames.specs.Summary.{is_one, joined, summary_of, summed_with}
+use Rattle.obo_frames.specs.Groups.{differs, name_of, operands_in, same_expression, short_in, short_lines}
+use Rattle.obo_frames.specs.Summary.{is_one, joined, summary_of}
 use Rattle.obo_frames.specs.declared.groups.Expression.{Expression}
 use Rattle.obo_frames.specs.declared.groups.Expression.TheVariants.{Class, Restriction}
 use Rattle.obo_frames.specs.declared.groups.Operand.{Operand}
@@ -18,6 +18,7 @@ use Rattle.obo_frames.specs.declared.groups.Summary.{Summary}
 use Rattle.obo_frames.specs.declared.groups.Summary.TheVariants.{Many, One}
 use Rattle.obo_frames.specs.declared.placed.Placed.{Placed}
 use Rattle.obo_frames.proofs.LeastLemmas.{least_line-append}
+use Rattle.obo_frames.proofs.ListLemmas.{Among}
 
 -- ---- one clause more
 
@@ -30,12 +31,12 @@ same_group one other same = (bytes_eq-Decides one other).0 (sym (is_eq-slice_cmp
 
 -- ---- expressions
 
-same_itself : (one : Expression) → same_expression one one ≡ true
+pub same_itself : (one : Expression) → same_expression one one ≡ true
 same_itself (Class class) = (bytes_eq-Decides class class).1 refl
 same_itself (Restriction role filler) =
     (λ i. (bytes_eq-Decides role role).1 refl i && (bytes_eq-Decides filler filler).1 refl i)
 
-same_is : (one other : Expression) → same_expression one other ≡ true → one ≡ other
+pub same_is : (one other : Expression) → same_expression one other ≡ true → one ≡ other
 same_is (Class one) (Class other) same = ap Class ((bytes_eq-Decides one other).0 same)
 same_is (Class one) (Restriction role filler) same = absurd (false≢true same)
 same_is (Restriction role filler) (Class other) same = absurd (false≢true same)
@@ -72,16 +73,11 @@ stays_one group one [] = refl
 stays_one group one (operand ∷ operands) =
     elim (is_of group operand) as (λ b. is_one (summary_of group (cond b (Some (cond (same_expression one operand.expression) (One one) Many)) (Some (One one))) operands) ≡ (cond b (same_expression one operand.expression) true && agree group one operands)) [
       | true ↦ elim (same_expression one operand.expression) as (λ s. is_one (summary_of group (Some (cond s (One one) Many)) operands) ≡ (s && agree group one operands)) [
-          | true ↦ stays_one group one operands
-          | false ↦ stays_many group operands
-        ]
+        | true ↦ stays_one group one operands
+        | false ↦ stays_many group operands
+      ]
       | false ↦ stays_one group one operands
     ]
-
--- the clause is one of these
-abbrev Among : Operand → List Operand → Type 0
-Among one [] = ⊥
-Among one (operand ∷ operands) = (operand ≡ one) ⊎ Among one operands
 
 and_false : (b : Bool) → (b && false) ≡ false
 and_false true = refl
@@ -113,8 +109,8 @@ comes_to_one group one (operand ∷ operands) (inl here) of_group =
     ∙ stays_one group operand.expression operands
     ∙ ap (λ it. agree group it.expression operands) here
     ∙ sym ((λ i. cond (first i) (same_expression one.expression operand.expression) true && agree group one.expression operands)
-      ∙ ap (λ it. same_expression one.expression it.expression && agree group one.expression operands) here
-      ∙ ap (λ b. b && agree group one.expression operands) (same_itself one.expression))
+    ∙ ap (λ it. same_expression one.expression it.expression && agree group one.expression operands) here
+    ∙ ap (λ b. b && agree group one.expression operands) (same_itself one.expression))
 comes_to_one group one (operand ∷ operands) (inr later) of_group =
     elim (is_of group operand) as (λ b. is_one (summary_of group (cond b (Some (One operand.expression)) None) operands) ≡ (cond b (same_expression one.expression operand.expression) true && agree group one.expression operands)) [
       | true ↦ stays_one group operand.expression operands ∙ agrees_first group operand.expression one operands later of_group (same_expression one.expression operand.expression) refl

@@ -1,9 +1,8 @@
 -- Lines read one after the other are all told, up to the first faulty one.
 use Rattle.std.proofs.Common.{◌≡◌, ◌⊎◌, inl, inr, List, [], ◌∷◌, ◌++◌, Result, Ok, Err, append_assoc, append-nil, ap, refl, subst, sym, ◌∙◌}
 use Rattle.obo_lexer.specs.declared.line.LineItem.{LineItem}
-use Rattle.obo_clause.specs.declared.line.Line.{Line}
 use Rattle.obo_frames.specs.Reading.{AnswersItem, AnswersItemFailure, IsItemFault}
-use Rattle.obo_frames.specs.Telling.{BodyFails, BodySays, FailsFirst, IsTold, Tells, behind, start}
+use Rattle.obo_frames.specs.Telling.{BodyFails, FailsFirst, IsTold, Tells, behind, start}
 use Rattle.obo_frames.specs.declared.fault.DocFault.{DocFault}
 use Rattle.obo_frames.specs.declared.fault.DocFault.TheVariants as fault
 use Rattle.obo_frames.specs.declared.told.Place.{Place}

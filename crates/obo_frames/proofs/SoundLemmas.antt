@@ -1,14 +1,13 @@
 -- What the lines of a file place is a document: all that every document keeps.
-use Rattle.std.proofs.Common.{◌≡◌, ◌⊎◌, inl, inr, ◌<◌, ℕ, Bool, true, false, List, [], ◌∷◌, ◌++◌, Option, None, Some, ap, arith, codes, cond, get_or, length, refl, subst, sym, ◌∙◌}
+use Rattle.std.proofs.Common.{◌≡◌, inl, inr, ℕ, Bool, true, false, List, [], ◌∷◌, ◌++◌, Option, None, Some, ap, codes, cond, refl, subst, sym, ◌∙◌}
 use Rattle.std.specs.Prelude.{All, Contains, ◌↔◌}
-use Rattle.std.specs.List.{list_all}
 use Rattle.std.specs.Str.{bytes_eq}
 use Rattle.std.proofs.lemmas.Bool.{and_parts}
 use Rattle.std.proofs.lemmas.List.Elements.{All-cons, All-contains, All-contains_itself, All-head, All-nil, All-tail}
 use Rattle.std.proofs.lemmas.Slice.Eq.{bytes_eq-Decides}
 use Rattle.obo_lexer.specs.Feeding.{begun, fed_with}
 use Rattle.obo_lexer.specs.Held.{HaveLineTexts, has_line_text}
-use Rattle.obo_lexer.specs.Items.{HasLineText, lines_of}
+use Rattle.obo_lexer.specs.Items.{lines_of}
 use Rattle.obo_lexer.specs.declared.line.LineBody.{LineBody}
 use Rattle.obo_lexer.specs.declared.line.LineBody.TheVariants as body
 use Rattle.obo_lexer.specs.declared.line.LineItem.{LineItem}
@@ -17,24 +16,26 @@ use Rattle.obo_lexer.proofs.TextLemmas.{HasLineText-from_test, HaveLineTexts-fed
 use Rattle.obo_tags.specs.declared.kind.FrameKind.{FrameKind}
 use Rattle.obo_tags.specs.declared.kind.FrameKind.TheVariants as kinds
 use Rattle.obo_clause.specs.Spelled.{IsLine, IsSpelledIn}
-use Rattle.obo_clause.specs.Spelling.{Says, Spells}
+use Rattle.obo_clause.specs.Spelling.{Spells}
 use Rattle.obo_clause.specs.declared.clause.Clause.{Clause}
 use Rattle.obo_clause.specs.declared.clause.Value.{Value}
 use Rattle.obo_clause.specs.declared.clause.Value.TheVariants as value
 use Rattle.obo_clause.specs.declared.line.Line.{Line}
 use Rattle.obo_clause.specs.declared.line.Line.TheVariants as says
-use Rattle.obo_frames.specs.Documents.{first_fault, frame_fault, least_line, lesser_line}
+use Rattle.obo_frames.specs.Documents.{first_fault, least_line}
 use Rattle.obo_frames.specs.Frames.{Entry, id_in, lines_without_id, place_id, placed_of, word_in}
 use Rattle.obo_frames.specs.Groups.{short_lines}
 use Rattle.obo_frames.specs.Soundness.{GivesId, HasIdClause, IsBare, IsKept}
 use Rattle.obo_frames.specs.Standing.{behind_clause, behind_line, named, place_first, placed_by_clause, placed_by_line, placed_from}
-use Rattle.obo_frames.specs.Telling.{BodySays, IsTold, Tells, behind, start}
-use Rattle.obo_frames.specs.declared.fault.DocFault.{DocFault}
+use Rattle.obo_frames.specs.Telling.{BodySays, Tells, behind, start}
 use Rattle.obo_frames.specs.declared.placed.Placed.{Placed}
 use Rattle.obo_frames.specs.declared.standing.Standing.{Standing}
 use Rattle.obo_frames.specs.declared.standing.Standing.TheVariants.{Begun, Header, Nameless, Within}
 use Rattle.obo_frames.specs.declared.told.Place.{Place}
 use Rattle.obo_frames.specs.declared.told.Told.{Told}
+use Rattle.obo_frames.proofs.FaultLemmas.{no_group}
+use Rattle.obo_frames.proofs.LeastLemmas.{no_lines}
+use Rattle.obo_frames.proofs.ListLemmas.{Among}
 use Rattle.obo_frames.proofs.PlacingLemmas.{placed_from-is}
 use Rattle.obo_frames.proofs.SpellingLemmas.{begun_kind, foreign_id, header_id, later_id, spells_bare, spells_said, spells_some}
 
@@ -55,10 +56,18 @@ have_texts limit [] tested = tt
 have_texts limit (item ∷ items) tested =
     let parts = and_parts _ _ tested in (line_text limit item.body parts.0, have_texts limit items parts.1)
 
-file_texts : (limit : ℕ) (bytes : List ℕ) → HaveTexts (lines_of limit bytes)
-file_texts limit bytes =
+tested_texts : (limit : ℕ) (bytes : List ℕ) → HaveTexts (lines_of limit bytes)
+tested_texts limit bytes =
     let fed = fed_with (begun limit) bytes in
     have_texts limit (lines_of limit bytes) (subst (HaveLineTexts limit) (waiting-whole limit bytes) (HaveLineTexts-finished fed _ refl (lines_are_written bytes).rest (HaveLineTexts-fed (begun limit) fed bytes refl refl)))
+
+text_at : (items : List LineItem) → HaveTexts items → (item : LineItem) → Among item items → (text : List ℕ) → item.body ≡ body.Text text → IsLine text
+text_at [] texts item among text is = absurd among
+text_at (first ∷ items) texts item (inl here) text is = texts.0 text (ap (λ (one : LineItem). one.body) here ∙ is)
+text_at (first ∷ items) texts item (inr later) text is = text_at items texts.1 item later text is
+
+pub file_texts : (limit : ℕ) (bytes : List ℕ) → (item : LineItem) → Among item (lines_of limit bytes) → (text : List ℕ) → item.body ≡ body.Text text → IsLine text
+file_texts limit bytes = text_at (lines_of limit bytes) (tested_texts limit bytes)
 
 -- ---- one line
 
@@ -148,6 +157,12 @@ kept_first at item line clause kind id texts same no_header names is =
 
 -- ---- all placed clauses
 
+-- what holds of a clause of one of these lines in its place, whichever of the three ways it is placed
+pub record HoldsPlaced (P : Placed → Type 0) (items : List LineItem) : Type 0 where
+  pub header : (at : Place) (item : LineItem) (line : ℕ) (clause : Clause) → Among item items → line ≡ item.number → at.kind ≡ kinds.Header → IsClauseAt at item clause → P (record { frame = kinds.Header; id = []; line = line; clause = clause })
+  pub first : (at : Place) (item : LineItem) (line : ℕ) (clause : Clause) (kind : FrameKind) (id : List ℕ) → Among item items → line ≡ item.number → at.kind ≡ kind → (kind ≡ kinds.Header → ⊥) → NamesFrame clause id → IsClauseAt at item clause → P (record { frame = kind; id = id; line = line; clause = record clause { qualifiers = [] } })
+  pub later : (at : Place) (item : LineItem) (line : ℕ) (clause : Clause) (kind : FrameKind) (id : List ℕ) → Among item items → line ≡ item.number → at.kind ≡ kind → at.is_first ≡ false → (kind ≡ kinds.Header → ⊥) → (id ≡ [] → ⊥) → IsClauseAt at item clause → P (record { frame = kind; id = id; line = line; clause = clause })
+
 -- a line stands where the clauses belong to this
 abbrev Fits : Standing → Place → Type 0
 Fits Header at = at.kind ≡ kinds.Header
@@ -155,50 +170,70 @@ Fits (Begun kind line) at = (at.kind ≡ kind) × (kind ≡ kinds.Header → ⊥
 Fits (Within kind id) at = (at.kind ≡ kind) × (at.is_first ≡ false) × (kind ≡ kinds.Header → ⊥) × (id ≡ [] → ⊥)
 Fits Nameless at = Unit {0}
 
--- one line places what is kept, and the next line stands where it should
-record KeepsOn (at : Place) (next : Standing) (placed : List Placed) (said : Line) : Type 0 where
+-- it holds of what one line places, and the next line stands where it should
+record HoldsOn (P : Placed → Type 0) (at : Place) (next : Standing) (placed : List Placed) (said : Line) : Type 0 where
   fits : Fits next (behind at said)
-  kept : (rest : List Placed) → All IsKeptAlone rest → All IsKeptAlone (placed ++ rest)
+  holds : All P placed
 
-abbrev all_more : (one : Placed) → IsKeptAlone one → (rest : List Placed) → All IsKeptAlone rest → All IsKeptAlone (one ∷ rest)
-all_more one kept rest all = All-cons IsKeptAlone one rest kept all
+one_holds : (P : Placed → Type 0) (one : Placed) → P one → All P (one ∷ [])
+one_holds P one holds = All-cons P one [] holds (All-nil P)
 
-keeps_first : (at : Place) (item : LineItem) (line : ℕ) (clause : Clause) (kind : FrameKind) → ((text : List ℕ) → item.body ≡ body.Text text → IsLine text) → at.kind ≡ kind → (kind ≡ kinds.Header → ⊥) → IsClauseAt at item clause → (found : Option (List ℕ)) → id_in clause ≡ found → KeepsOn at (named kind found) (place_first kind found (record { line = line; clause = clause })) (says.Content clause)
-keeps_first at item line clause kind texts same no_header is None found = record { fits = tt; kept = λ rest all. all }
-keeps_first at item line clause kind texts same no_header is (Some id) found =
+holds_first : (P : Placed → Type 0) (items : List LineItem) → HoldsPlaced P items → (at : Place) (item : LineItem) (line : ℕ) (clause : Clause) (kind : FrameKind) → Among item items → line ≡ item.number → at.kind ≡ kind → (kind ≡ kinds.Header → ⊥) → IsClauseAt at item clause → (found : Option (List ℕ)) → id_in clause ≡ found → HoldsOn P at (named kind found) (place_first kind found (record { line = line; clause = clause })) (says.Content clause)
+holds_first P items each at item line clause kind among number same no_header is None found =
+    record { fits = tt; holds = All-nil P }
+holds_first P items each at item line clause kind among number same no_header is (Some id) found =
     let names = names_frame clause id found in
     let spells : Spells kind at.is_first is.line clause = subst (λ one. Spells one at.is_first is.line clause) same is.spells in
     record {
       fits = (same, refl, no_header, spells_some kind at.is_first is.line clause spells id names.value);
-      kept = all_more _ (kept_first at item line clause kind id texts same no_header names is);
+      holds = one_holds P _ (each.first at item line clause kind id among number same no_header names is);
     }
 
-keeps_clause : (standing : Standing) (at : Place) (item : LineItem) (line : ℕ) (clause : Clause) → ((text : List ℕ) → item.body ≡ body.Text text → IsLine text) → Fits standing at → IsClauseAt at item clause → KeepsOn at (behind_clause standing clause) (placed_by_clause standing (record { line = line; clause = clause })) (says.Content clause)
-keeps_clause Header at item line clause texts fits is =
-    record { fits = fits; kept = all_more _ (kept_header at item line clause texts fits is) }
-keeps_clause (Begun kind begun) at item line clause texts fits is =
-    keeps_first at item line clause kind texts fits.0 fits.1 is (id_in clause) refl
-keeps_clause (Within kind id) at item line clause texts fits is =
+holds_clause : (P : Placed → Type 0) (items : List LineItem) → HoldsPlaced P items → (standing : Standing) (at : Place) (item : LineItem) (line : ℕ) (clause : Clause) → Among item items → line ≡ item.number → Fits standing at → IsClauseAt at item clause → HoldsOn P at (behind_clause standing clause) (placed_by_clause standing (record { line = line; clause = clause })) (says.Content clause)
+holds_clause P items each Header at item line clause among number fits is =
+    record { fits = fits; holds = one_holds P _ (each.header at item line clause among number fits is) }
+holds_clause P items each (Begun kind begun) at item line clause among number fits is =
+    holds_first P items each at item line clause kind among number fits.0 fits.1 is (id_in clause) refl
+holds_clause P items each (Within kind id) at item line clause among number fits is =
     record {
       fits = (fits.0, refl, fits.2, fits.3);
-      kept = all_more _ (kept_later at item line clause kind id texts fits.0 fits.1 fits.2 fits.3 is);
+      holds = one_holds P _ (each.later at item line clause kind id among number fits.0 fits.1 fits.2 fits.3 is);
     }
-keeps_clause Nameless at item line clause texts fits is = record { fits = tt; kept = λ rest all. all }
+holds_clause P items each Nameless at item line clause among number fits is = record { fits = tt; holds = All-nil P }
 
-keeps_line : (standing : Standing) (at : Place) (item : LineItem) (line : ℕ) (said : Line) → ((text : List ℕ) → item.body ≡ body.Text text → IsLine text) → Fits standing at → BodySays at item.body said → KeepsOn at (behind_line standing line said) (placed_by_line standing line said) said
-keeps_line standing at item line says.Blank texts fits body_says = record { fits = fits; kept = λ rest all. all }
-keeps_line standing at item line (says.Frame kind) texts fits body_says =
-    record { fits = (refl, body_frame at item.body (says.Frame kind) kind body_says refl); kept = λ rest all. all }
-keeps_line standing at item line (says.Content clause) texts fits body_says =
-    keeps_clause standing at item line clause texts fits (body_clause at item item.body (says.Content clause) clause refl body_says refl)
+holds_line : (P : Placed → Type 0) (items : List LineItem) → HoldsPlaced P items → (standing : Standing) (at : Place) (item : LineItem) (line : ℕ) (said : Line) → Among item items → line ≡ item.number → Fits standing at → BodySays at item.body said → HoldsOn P at (behind_line standing line said) (placed_by_line standing line said) said
+holds_line P items each standing at item line says.Blank among number fits body_says = record { fits = fits; holds = All-nil P }
+holds_line P items each standing at item line (says.Frame kind) among number fits body_says =
+    record { fits = (refl, body_frame at item.body (says.Frame kind) kind body_says refl); holds = All-nil P }
+holds_line P items each standing at item line (says.Content clause) among number fits body_says =
+    holds_clause P items each standing at item line clause among number fits (body_clause at item item.body (says.Content clause) clause refl body_says refl)
 
-each_kept : (standing : Standing) (at : Place) (items : List LineItem) (tolds : List Told) → HaveTexts items → Fits standing at → Tells at items tolds → All IsKeptAlone (placed_from standing tolds)
-each_kept standing at [] [] texts fits tells = All-nil IsKeptAlone
-each_kept standing at [] (told ∷ tolds) texts fits tells = absurd tells
-each_kept standing at (item ∷ items) [] texts fits tells = absurd tells
-each_kept standing at (item ∷ items) (told ∷ tolds) texts fits tells =
-    let on = keeps_line standing at item told.line told.said texts.0 fits tells.0.says in
-    on.kept _ (each_kept (behind_line standing told.line told.said) (behind at told.said) items tolds texts.1 on.fits tells.1)
+all_joined : {X : Type 0} (P : X → Type 0) (xs ys : List X) → All P xs → All P ys → All P (xs ++ ys)
+all_joined P [] ys first second = second
+all_joined P (x ∷ xs) ys first second =
+    All-cons P x (xs ++ ys) (All-head P x xs first) (all_joined P xs ys (All-tail P x xs first) second)
+
+holds_from : (P : Placed → Type 0) (all : List LineItem) → HoldsPlaced P all → (standing : Standing) (at : Place) (items : List LineItem) (tolds : List Told) → ((item : LineItem) → Among item items → Among item all) → Fits standing at → Tells at items tolds → All P (placed_from standing tolds)
+holds_from P all each standing at [] [] among fits tells = All-nil P
+holds_from P all each standing at [] (told ∷ tolds) among fits tells = absurd tells
+holds_from P all each standing at (item ∷ items) [] among fits tells = absurd tells
+holds_from P all each standing at (item ∷ items) (told ∷ tolds) among fits tells =
+    let on = holds_line P all each standing at item told.line told.said (among item (inl refl)) tells.0.line fits tells.0.says in
+    all_joined P (placed_by_line standing told.line told.said) _ on.holds (holds_from P all each (behind_line standing told.line told.said) (behind at told.said) items tolds (λ one later. among one (inr later)) on.fits tells.1)
+
+-- what holds of a clause in its place, however it is placed, holds of all that lines place
+pub holds_of_all : (P : Placed → Type 0) (items : List LineItem) (tolds : List Told) → HoldsPlaced P items → Tells start items tolds → All P (placed_of tolds)
+holds_of_all P items tolds each tells =
+    subst (All P) (placed_from-is tolds) (holds_from P items each Header start items tolds (λ item among. among) refl tells)
+
+kept_placed : (limit : ℕ) (bytes : List ℕ) → HoldsPlaced IsKeptAlone (lines_of limit bytes)
+kept_placed limit bytes =
+    let texts = file_texts limit bytes in
+    record {
+      header = λ at item line clause among number header is. kept_header at item line clause (texts item among) header is;
+      first = λ at item line clause kind id among number same no_header names is. kept_first at item line clause kind id (texts item among) same no_header names is;
+      later = λ at item line clause kind id among number same later no_header some is. kept_later at item line clause kind id (texts item among) same later no_header some is;
+    }
 
 -- ---- the ids of frames
 
@@ -255,11 +290,6 @@ heads_line all standing line says.Blank head among = record { head = head; heads
 heads_line all standing line (says.Frame kind) head among = record { head = tt; heads = All-nil (HasItsHead all) }
 heads_line all standing line (says.Content clause) head among = heads_clause all standing (record { line = line; clause = clause }) head among
 
-all_joined : {X : Type 0} (P : X → Type 0) (xs ys : List X) → All P xs → All P ys → All P (xs ++ ys)
-all_joined P [] ys first second = second
-all_joined P (x ∷ xs) ys first second =
-    All-cons P x (xs ++ ys) (All-head P x xs first) (all_joined P xs ys (All-tail P x xs first) second)
-
 each_head : (all : List Placed) (standing : Standing) (tolds : List Told) → HasHead all standing → AreAmong all (placed_from standing tolds) → All (HasItsHead all) (placed_from standing tolds)
 each_head all standing [] head among = All-nil (HasItsHead all)
 each_head all standing (told ∷ tolds) head among =
@@ -267,28 +297,12 @@ each_head all standing (told ∷ tolds) head among =
     let on = heads_line all standing told.line told.said head parts.0 in
     all_joined (HasItsHead all) (placed_by_line standing told.line told.said) _ on.heads (each_head all (behind_line standing told.line told.said) tolds on.head parts.1)
 
--- ---- groups
-
-never_none : (best : ℕ) (lines : List ℕ) → least_line (Some best) lines ≡ None → ⊥
-never_none best [] none = cc
-never_none best (line ∷ lines) none = never_none (lesser_line (Some best) line) lines none
-
-no_lines : (lines : List ℕ) → least_line None lines ≡ None → lines ≡ []
-no_lines [] none = refl
-no_lines (line ∷ lines) none = absurd (never_none line lines none)
-
-no_group : (frame group : Option ℕ) → frame_fault frame group ≡ None → group ≡ None
-no_group None None none = refl
-no_group None (Some group) none = absurd (cc)
-no_group (Some frame) None none = refl
-no_group (Some frame) (Some group) none = absurd (cc)
-
 -- ---- the whole
 
 pub kept_all : (limit : ℕ) (bytes : List ℕ) (tolds : List Told) → Tells start (lines_of limit bytes) tolds → first_fault tolds ≡ None → IsKept (placed_of tolds)
 kept_all limit bytes tolds tells faultless =
     let placed = placed_of tolds in
-    let alone : All IsKeptAlone placed = subst (All IsKeptAlone) (placed_from-is tolds) (each_kept Header start (lines_of limit bytes) tolds (file_texts limit bytes) refl tells) in
+    let alone = holds_of_all IsKeptAlone (lines_of limit bytes) tolds (kept_placed limit bytes) tells in
     let heads : All (HasItsHead placed) placed = subst (All (HasItsHead placed)) (placed_from-is tolds) (each_head placed Header tolds tt (subst (AreAmong placed) (sym (placed_from-is tolds)) (All-contains_itself placed))) in
     record {
       spelled = λ one among. (All-contains IsKeptAlone placed one alone among).spelled;

@@ -1,6 +1,5 @@
 -- What lines spell: an `id` clause with a word, and the same without its qualifiers.
 use Rattle.std.proofs.Common.{◌≡◌, ◌⊎◌, inl, inr, ⊎_elim, ◌≤◌, ℕ, Bool, true, false, List, [], ◌∷◌, ◌++◌, ap, append-nil, append_assoc, arith, codes, cond, eqb, length, length-append, refl, subst, sym, ◌∙◌}
-use Rattle.std.specs.List.{list_any}
 use Rattle.std.specs.Str.{IsUtf8}
 use Rattle.std.proofs.Math.Seq.{get_or-append_seam, take-append_seam}
 use Rattle.std.proofs.lemmas.Bool.{false≢true, or_parts}
@@ -14,9 +13,9 @@ use Rattle.obo_tags.specs.declared.kind.FrameKind.TheVariants as kinds
 use Rattle.obo_tags.specs.declared.kind.ValueShape.{ValueShape}
 use Rattle.obo_tags.specs.declared.kind.ValueShape.TheVariants as shapes
 use Rattle.obo_clause.specs.Grammar.{IsEnding, IsWord, bare as bare_ending, nothing as no_comment, qualified}
-use Rattle.obo_clause.specs.Marks.{Mark, bare, escaped, marks_of, read_as}
+use Rattle.obo_clause.specs.Marks.{Mark, bare, escaped, marks_of}
 use Rattle.obo_clause.specs.Spelled.{IsLine, IsSpelledAs}
-use Rattle.obo_clause.specs.Spelling.{IsContent, IsKindName, IsTagged, IsValue, Says, Spells, blank, class, content, definition, frame, id, instance, link, literal, pair, raw, restriction, shape_at, shaped, subset, synonym, synonym_type, term, text, truth, typedef, xref}
+use Rattle.obo_clause.specs.Spelling.{IsContent, IsKindName, IsValue, Says, Spells, blank, class, content, definition, frame, id, instance, link, literal, pair, raw, restriction, shape_at, shaped, subset, synonym, synonym_type, term, text, truth, typedef, xref}
 use Rattle.obo_clause.specs.Vocabulary.{block_open}
 use Rattle.obo_clause.specs.declared.clause.Clause.{Clause}
 use Rattle.obo_clause.specs.declared.clause.Qualifier.{Qualifier}
@@ -220,14 +219,14 @@ bare_front shape rest one qualifiers (shaped other bytes before marks between en
       cut_off = inl refl;
     })
     (λ block.
-      let cut = cut_marks bytes ((before ++ marks) ++ between) block.tail (whole ∙ ap (λ rest. ((before ++ marks) ++ between) ++ rest) block.whole) in
-      record {
-        front = cut.before;
-        behind = 123 ∷ cut.behind;
-        whole = cut.whole;
-        content = shaped other cut.before before marks between [] it [] (cut.marks ∙ sym (append-nil ((before ++ marks) ++ between))) a ((one_word (between ++ ending) other marks it is_value word is).anywhere (between ++ [])) b (bare_ending [] no_comment);
-        cut_off = inr (cut.behind, refl);
-      })
+    let cut = cut_marks bytes ((before ++ marks) ++ between) block.tail (whole ∙ ap (λ rest. ((before ++ marks) ++ between) ++ rest) block.whole) in
+    record {
+      front = cut.before;
+      behind = 123 ∷ cut.behind;
+      whole = cut.whole;
+      content = shaped other cut.before before marks between [] it [] (cut.marks ∙ sym (append-nil ((before ++ marks) ++ between))) a ((one_word (between ++ ending) other marks it is_value word is).anywhere (between ++ [])) b (bare_ending [] no_comment);
+      cut_off = inr (cut.behind, refl);
+    })
     (how_it_ends ending more is_ending)
 
 -- the front of a line is a line, where what is cut off begins with a `{`
@@ -254,7 +253,7 @@ spells_bare kind first line clause is_line spells word is =
     let bare_one = bare_front (shape_at kind first clause.tag) spells.rest clause.value clause.qualifiers spells.content word is in
     let start : List ℕ = (tagged.before ++ clause.tag) ++ tagged.between in
     let whole : line ≡ (start ++ 58 ∷ bare_one.front) ++ bare_one.behind =
-        tagged.whole ∙ ap (λ rest. start ++ 58 ∷ rest) bare_one.whole ∙ sym (append_assoc start (58 ∷ bare_one.front) bare_one.behind) in
+    tagged.whole ∙ ap (λ rest. start ++ 58 ∷ rest) bare_one.whole ∙ sym (append_assoc start (58 ∷ bare_one.front) bare_one.behind) in
     record {
       line = start ++ 58 ∷ bare_one.front;
       is_line = front_line (start ++ 58 ∷ bare_one.front) bare_one.behind bare_one.cut_off (subst IsLine whole is_line);

@@ -2,7 +2,7 @@
 -- stand and however the ids there are spelled; likewise all `union_of` clauses. Each stands for an expression, and a group
 -- whose clauses all stand for the same one is short. (The groups: OBO Flat File Format 1.4, term frames; ids are compared
 -- by the IRIs that they have in this ontology.)
-use Rattle.std.specs.Prelude.{◌≡◌, ℕ, Bool, true, false, not, ◌&&◌, List, [], ◌∷◌, ◌++◌, Option, None, Some, codes, filter, if◌then◌else◌, map}
+use Rattle.std.specs.Prelude.{ℕ, Bool, true, false, not, ◌&&◌, List, [], ◌∷◌, ◌++◌, Option, None, Some, codes, filter, if◌then◌else◌, map}
 use Rattle.std.specs.Cmp.Lexicographic.{slice_cmp}
 use Rattle.std.specs.List.{filter_map, list_any}
 use Rattle.std.specs.Option.{option_map}

@@ -2,6 +2,7 @@ pub mod Documents
 pub mod Frames
 pub mod Groups
 pub mod Soundness
+pub mod Laws
 pub mod Reading
 pub mod Standing
 pub mod Summary

@@ -1,4 +1,4 @@
-use Rattle.std.proofs.Common.{◌≡◌, ◌⊎◌, inl, inr, ◌∷◌, ◌++◌, [], Bool, true, false, ap, refl, subst, sym, ◌∙◌}
+use Rattle.std.proofs.Common.{◌≡◌, ◌⊎◌, inl, inr, ◌∷◌, ◌++◌, [], true, false, ap, refl, subst, sym, ◌∙◌}
 use Rattle.std.proofs.lemmas.Bool.{false≢true}
 use Rattle.std.proofs.lemmas.Result.{err_from_is_err_and}
 use Rattle.obo_lexer.specs.Feeding.{Feeder}
@@ -17,8 +17,7 @@ loop-item-preserved c =
     let rest = c.take_line.new.self.lines.waiting in
     let told = c.in_ok-told.told in
     let reads = subst (Reads all c.loop-item.tolds.items c.loop-item.place) (ap (λ (feeder : Feeder). feeder.lines.waiting) c.in-Some.ensures.some) c.loop-item.invariant.0 in
-    let more = reads_more all c.loop-item.tolds.items c.loop-item.place c.in-Some.item rest told reads c.in_ok-told.ensures.tells c.in_ok-told.ensures.told c.in_ok-told.ensures.failed in
-    (
+    let more = reads_more all c.loop-item.tolds.items c.loop-item.place c.in-Some.item rest told reads c.in_ok-told.ensures.tells c.in_ok-told.ensures.told c.in_ok-told.ensures.failed in (
       subst (λ tolds. Reads all tolds c.behind-place.result rest) (sym c.in_ok-push_back.ensures.items)
           (subst (λ place. Reads all (c.loop-item.tolds.items ++ told ∷ []) place rest) (sym c.behind-place.ensures) more),
       sym (ap (λ (feeder : Feeder). feeder.is_spent) c.in-Some.ensures.some) ∙ c.loop-item.invariant.1,

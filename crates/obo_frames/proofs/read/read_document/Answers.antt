@@ -1,7 +1,7 @@
 use Rattle.std.proofs.Common.{None, ap, inl, subst, sym, ◌∙◌}
 use Rattle.obo_frames.specs.Documents.{frame_fault, least_line, of_frame}
 use Rattle.obo_frames.specs.Groups.{short_lines}
-use Rattle.obo_frames.specs.Soundness.{IsKept, IsSound}
+use Rattle.obo_frames.specs.Soundness.{IsKept}
 use Rattle.obo_frames.proofs.SoundLemmas.{kept_all}
 use Rattle.obo_frames.proofs.read.read_document.Goals as goal
 

@@ -1,4 +1,4 @@
-use Rattle.std.proofs.Common.{[], append-nil, ap, subst, sym, ◌++◌, ◌∙◌, None}
+use Rattle.std.proofs.Common.{append-nil, ap, sym, ◌++◌, ◌∙◌, None}
 use Rattle.obo_frames.specs.Documents.{least_line}
 use Rattle.obo_frames.specs.Standing.{lost_from, placed_from}
 use Rattle.obo_frames.proofs.LeastLemmas.{no_first}
@@ -8,8 +8,7 @@ use Rattle.obo_frames.proofs.standing.place_all.Goals as goal
 pub loop-told-preserved : goal.loop-told-preserved
 loop-told-preserved c =
     let more = c.in_ok-draft.ensures in
-    let first = c.in-Some.ensures.items in
-    (
+    let first = c.in-Some.ensures.items in (
       placed_step _ _ _ _ _ _ _ _ first more.placed more.standing c.loop-told.invariant.0,
       lost_step _ _ _ _ _ _ _ _ first more.lost more.standing c.loop-told.invariant.1,
     )
