@@ -8,3 +8,4 @@ pub mod SoundLemmas
 pub mod LawLemmas
 pub mod FaultLemmas
 pub mod OneLemmas
+pub mod DraftLemmas

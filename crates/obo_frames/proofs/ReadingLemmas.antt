@@ -29,7 +29,7 @@ reads_nothing all = record {
   failed = λ one fails. fails;
 }
 
-one_more : (tolds others : List Told) (told : Told) → (tolds ++ told ∷ []) ++ others ≡ tolds ++ told ∷ others
+pub one_more : (tolds others : List Told) (told : Told) → (tolds ++ told ∷ []) ++ others ≡ tolds ++ told ∷ others
 one_more tolds others told = append_assoc tolds (told ∷ []) others
 
 -- what an answer says of another one

@@ -1,36 +1,35 @@
 //! The lines of a file, each read where it stands.
 ghost use Rattle.std.specs.Prelude.{◌≡◌, ◌^◌, ◌<◌, IfErr, IfOk, OnOk, false, length};
 ghost use Rattle.obo_lexer.specs.Items.{lines_of};
-ghost use Rattle.obo_frames.specs.Telling.{IsTold, Tells, start};
-ghost use Rattle.obo_frames.specs.Reading.{AnswersItem, AnswersItemFailure, HasNoFaultyLine, IsAllTold, IsItemFault, IsLineFault, IsNoFault, IsTheLineFault};
+ghost use Rattle.obo_frames.specs.Telling.{IsTold};
+ghost use Rattle.obo_frames.specs.Reading.{AnswersItem, AnswersItemFailure, HasNoFaultyLine, IsItemFault, IsLineFault, IsNoFault, IsRead, IsTheLineFault};
 
 use crate::DocFault;
+use crate::standing::{Draft, empty_draft, placed_more};
 use crate::told::{Place, Told, behind, start};
 use obo_clause::{LineFault, read_line};
 use obo_lexer::{LineBody, LineFeeder, LineItem};
 use rel_io::NoMemory;
 use std::alloc::Global;
-use std::collections::VecDeque;
 
-/// What each line of the file says, or what is wrong with the first faulty one.
-pub fn read_lines(alloc: Global, bytes: &[u8], limit: u32) -> Result<VecDeque<Told>, DocFault>
+/// All lines of the file read and their clauses placed, or what is wrong with the first faulty line.
+pub fn read_lines(alloc: Global, bytes: &[u8], limit: u32) -> Result<Draft, DocFault>
     requires { length bytes.now < 2 ^ 32 }
-    ensures tells { IfOk result (λ tolds. Tells start (lines_of limit bytes.now) tolds.items) }
-    ensures all_told { IfOk result (λ tolds. IsAllTold limit bytes.now tolds.items) }
+    ensures read { IfOk result (IsRead limit bytes.now) }
     ensures no_fault { OnOk result (HasNoFaultyLine limit bytes.now) }
     ensures fails { IfErr result (IsLineFault limit bytes.now) }
     ensures first { IfErr result (IsTheLineFault limit bytes.now) }
     ensures untold { IfErr result (IsNoFault limit bytes.now) }
 {
     let mut feeder = fed_with(alloc, bytes, limit)?;
-    let mut tolds = VecDeque::new(alloc);
     let mut place = start();
+    let mut draft = empty_draft(alloc);
     while let Some(item) = feeder.take_line() {
         let told = read_item(alloc, place, item)?;
         place = behind(place, &told.said);
-        tolds.push_back(told)?;
+        draft = placed_more(alloc, draft, told)?;
     }
-    Ok(tolds)
+    Ok(draft)
 }
 
 /// All lines of the file, waiting to be taken.

@@ -4,7 +4,7 @@ ghost use Rattle.obo_frames.specs.Documents.{AnswersDocument, AnswersFault, IsDo
 
 use crate::groups::short_line;
 use crate::lines::read_lines;
-use crate::standing::place_all;
+use crate::standing::lost_at_end;
 use crate::{DocFault, Document};
 use std::alloc::Global;
 
@@ -17,12 +17,12 @@ pub fn read_document(alloc: Global, bytes: &[u8], line_limit: u32) -> Result<Doc
     ensures fault { IfErr result (IsFaultOf line_limit bytes.now) }
     ensures refused { AnswersFault line_limit bytes.now result }
 {
-    let tolds = read_lines(alloc, bytes, line_limit)?;
-    let (placed, lost) = place_all(alloc, tolds)?;
-    let short = short_line(alloc, placed.as_slice())?;
+    let draft = read_lines(alloc, bytes, line_limit)?;
+    let lost = lost_at_end(&draft.standing, draft.lost);
+    let short = short_line(alloc, draft.placed.as_slice())?;
     match frame_fault(lost, short) {
         Some(fault) => Err(fault),
-        None => Ok(Document::of(placed)),
+        None => Ok(Document::of(draft.placed)),
     }
 }
 

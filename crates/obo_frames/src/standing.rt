@@ -3,6 +3,7 @@ ghost use Rattle.std.specs.Prelude.{◌≡◌, ◌++◌, [], IfOk, None};
 ghost use Rattle.std.specs.Option.{option_copied};
 ghost use Rattle.obo_frames.specs.Documents.{least_line, lesser_line};
 ghost use Rattle.obo_frames.specs.Frames as spec;
+ghost use Rattle.obo_frames.specs.declared.standing.Standing.TheVariants.{Header};
 ghost use Rattle.obo_frames.specs.Standing.{behind_clause, behind_line, lost_at_clause, lost_at_end, lost_at_line, lost_unless, named, place_first, placed_by_clause, placed_by_line};
 
 use crate::Placed;
@@ -11,7 +12,6 @@ use obo_clause::{Clause, Line, Value};
 use obo_tags::FrameKind;
 use rel_io::{Bytes, Dup, Items, NoMemory};
 use std::alloc::Global;
-use std::collections::VecDeque;
 
 /// What the clauses belong to that come next.
 #[derive(Drop)]
@@ -35,28 +35,21 @@ pub struct Draft {
     pub lost: Option<u32>,
 }
 
-/// All clauses in their places, and the least line at which a frame without an id begins.
-pub fn place_all(
-    alloc: Global,
-    mut tolds: VecDeque<Told>,
-) -> Result<(Vec<Placed>, Option<u32>), NoMemory>
-    ensures placed { IfOk result (λ made. made.0.items ≡ spec.placed_of tolds.items) }
-    ensures lost { IfOk result (λ made. made.1 ≡ least_line None (spec.lines_without_id tolds.items)) }
+/// Nothing is placed, and the clauses of the header come next.
+pub fn empty_draft(alloc: Global) -> Draft
+    ensures standing { result.standing ≡ Header }
+    ensures placed { result.placed.items ≡ [] }
+    ensures lost { result.lost ≡ None }
 {
-    let mut draft = Draft {
+    Draft {
         standing: Standing::Header,
         placed: Vec::new(alloc),
         lost: None,
-    };
-    while let Some(told) = tolds.pop_front() {
-        draft = placed_more(alloc, draft, told)?;
     }
-    let lost = lost_at_end(&draft.standing, draft.lost);
-    Ok((draft.placed, lost))
 }
 
 /// One line more.
-fn placed_more(alloc: Global, draft: Draft, told: Told) -> Result<Draft, NoMemory>
+pub fn placed_more(alloc: Global, draft: Draft, told: Told) -> Result<Draft, NoMemory>
     ensures standing { IfOk result (λ next. next.standing ≡ behind_line draft.standing told.line told.said) }
     ensures placed { IfOk result (λ next. next.placed.items ≡ draft.placed.items ++ placed_by_line draft.standing told.line told.said) }
     ensures lost { IfOk result (λ next. next.lost ≡ least_line draft.lost (lost_at_line draft.standing told.said)) }
@@ -77,7 +70,7 @@ fn placed_more(alloc: Global, draft: Draft, told: Told) -> Result<Draft, NoMemor
 }
 
 /// The least line with that of a frame that ends here without a clause.
-fn lost_at_end(standing: &Standing, lost: Option<u32>) -> Option<u32>
+pub fn lost_at_end(standing: &Standing, lost: Option<u32>) -> Option<u32>
     ensures { result ≡ least_line lost (lost_at_end standing.now) }
 {
     match standing {

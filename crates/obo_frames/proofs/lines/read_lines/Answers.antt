@@ -1,9 +1,10 @@
-use Rattle.std.proofs.Common.{◌≡◌, ◌⊎◌, inl, inr, ◌∷◌, ◌++◌, [], true, false, ap, refl, subst, sym, ◌∙◌}
+use Rattle.std.proofs.Common.{◌≡◌, ◌⊎◌, inl, inr, [], false, true, ap, refl, subst, sym, ◌∙◌}
 use Rattle.std.proofs.lemmas.Bool.{false≢true}
 use Rattle.std.proofs.lemmas.Result.{err_from_is_err_and}
 use Rattle.obo_lexer.specs.Feeding.{Feeder}
 use Rattle.obo_lexer.specs.Items.{lines_of}
-use Rattle.obo_frames.proofs.ReadingLemmas.{Reads, all_read, fails_here, fails_only_here, only_read, reads_more, untold_here}
+use Rattle.obo_frames.proofs.DraftLemmas.{Progress, all_drawn, progress_begins, progress_goes_on}
+use Rattle.obo_frames.proofs.ReadingLemmas.{fails_here, fails_only_here, untold_here}
 use Rattle.obo_frames.proofs.lines.read_lines.Goals as goal
 
 -- a feeder with no line to take that is not spent has none waiting
@@ -11,15 +12,20 @@ nothing_waits : (feeder : Feeder) → (feeder.lines.waiting ≡ []) ⊎ (feeder.
 nothing_waits feeder (inl none) whole = none
 nothing_waits feeder (inr spent) whole = absurd (false≢true (sym whole ∙ spent))
 
+pub loop-item-init : goal.loop-item-init
+loop-item-init c = (
+  subst (Progress (lines_of c.args.limit c.args.bytes.now) c.start-place.result c.empty_draft-draft.result) (sym c.in_ok-feeder.ensures.waiting)
+      (progress_begins _ _ _ c.start-place.ensures c.empty_draft-draft.ensures.standing c.empty_draft-draft.ensures.placed c.empty_draft-draft.ensures.lost),
+  c.in_ok-feeder.ensures.whole,
+)
+
 pub loop-item-preserved : goal.loop-item-preserved
 loop-item-preserved c =
     let all = lines_of c.args.limit c.args.bytes.now in
-    let rest = c.take_line.new.self.lines.waiting in
-    let told = c.in_ok-told.told in
-    let reads = subst (Reads all c.loop-item.tolds.items c.loop-item.place) (ap (λ (feeder : Feeder). feeder.lines.waiting) c.in-Some.ensures.some) c.loop-item.invariant.0 in
-    let more = reads_more all c.loop-item.tolds.items c.loop-item.place c.in-Some.item rest told reads c.in_ok-told.ensures.tells c.in_ok-told.ensures.told c.in_ok-told.ensures.failed in (
-      subst (λ tolds. Reads all tolds c.behind-place.result rest) (sym c.in_ok-push_back.ensures.items)
-          (subst (λ place. Reads all (c.loop-item.tolds.items ++ told ∷ []) place rest) (sym c.behind-place.ensures) more),
+    let progress = subst (Progress all c.loop-item.place c.loop-item.draft) (ap (λ (feeder : Feeder). feeder.lines.waiting) c.in-Some.ensures.some) c.loop-item.invariant.0 in
+    let said = c.in_ok-told.ensures in
+    let more = c.in_ok-draft.ensures in (
+      progress_goes_on all c.loop-item.place _ c.loop-item.draft _ c.in-Some.item _ c.in_ok-told.told progress said.tells said.told said.failed c.behind-place.ensures more.standing more.placed more.lost,
       sym (ap (λ (feeder : Feeder). feeder.is_spent) c.in-Some.ensures.some) ∙ c.loop-item.invariant.1,
     )
 
@@ -27,37 +33,29 @@ pub returns-in_err-told-clause-fails : goal.returns-in_err-told-clause-fails
 returns-in_err-told-clause-fails c =
     let p = err_from_is_err_and c.from_residual-in_err-told.result c.from_residual-in_err-told.ensures.1 in
     let all = lines_of c.args.limit c.args.bytes.now in
-    let reads = subst (Reads all c.loop-item.tolds.items c.loop-item.place) (ap (λ (feeder : Feeder). feeder.lines.waiting) c.in-Some.ensures.some) c.loop-item.invariant.0 in
-    rw (p.1, p.2) (fails_here all _ _ _ _ _ reads c.in_err-told.ensures.fails)
+    let progress = subst (Progress all c.loop-item.place c.loop-item.draft) (ap (λ (feeder : Feeder). feeder.lines.waiting) c.in-Some.ensures.some) c.loop-item.invariant.0 in
+    rw (p.1, p.2) (fails_here all _ _ _ _ _ progress.reads c.in_err-told.ensures.fails)
 
 pub returns-in_err-told-clause-first : goal.returns-in_err-told-clause-first
 returns-in_err-told-clause-first c =
     let p = err_from_is_err_and c.from_residual-in_err-told.result c.from_residual-in_err-told.ensures.1 in
     let all = lines_of c.args.limit c.args.bytes.now in
-    let reads = subst (Reads all c.loop-item.tolds.items c.loop-item.place) (ap (λ (feeder : Feeder). feeder.lines.waiting) c.in-Some.ensures.some) c.loop-item.invariant.0 in
-    rw (p.1, p.2) (fails_only_here all _ _ _ _ _ reads c.in_err-told.ensures.told c.in_err-told.ensures.failed)
+    let progress = subst (Progress all c.loop-item.place c.loop-item.draft) (ap (λ (feeder : Feeder). feeder.lines.waiting) c.in-Some.ensures.some) c.loop-item.invariant.0 in
+    rw (p.1, p.2) (fails_only_here all _ _ _ _ _ progress.reads c.in_err-told.ensures.told c.in_err-told.ensures.failed)
 
 pub returns-in_err-told-clause-untold : goal.returns-in_err-told-clause-untold
 returns-in_err-told-clause-untold c =
     let p = err_from_is_err_and c.from_residual-in_err-told.result c.from_residual-in_err-told.ensures.1 in
     let all = lines_of c.args.limit c.args.bytes.now in
-    let reads = subst (Reads all c.loop-item.tolds.items c.loop-item.place) (ap (λ (feeder : Feeder). feeder.lines.waiting) c.in-Some.ensures.some) c.loop-item.invariant.0 in
-    rw (p.1, p.2) (untold_here all _ _ _ _ _ reads c.in_err-told.ensures.told)
+    let progress = subst (Progress all c.loop-item.place c.loop-item.draft) (ap (λ (feeder : Feeder). feeder.lines.waiting) c.in-Some.ensures.some) c.loop-item.invariant.0 in
+    rw (p.1, p.2) (untold_here all _ _ _ _ _ progress.reads c.in_err-told.ensures.told)
 
-pub returns-clause-tells : goal.returns-clause-tells
-returns-clause-tells c =
-    let all = lines_of c.args.limit c.args.bytes.now in
+pub returns-clause-read : goal.returns-clause-read
+returns-clause-read c =
     let none = nothing_waits c.loop-item.feeder (c.in_default.ensures.none_waits.0 refl) c.loop-item.invariant.1 in
-    all_read all c.loop-item.tolds.items c.loop-item.place (subst (Reads all c.loop-item.tolds.items c.loop-item.place) none c.loop-item.invariant.0)
-
-pub returns-clause-all_told : goal.returns-clause-all_told
-returns-clause-all_told c =
-    let all = lines_of c.args.limit c.args.bytes.now in
-    let none = nothing_waits c.loop-item.feeder (c.in_default.ensures.none_waits.0 refl) c.loop-item.invariant.1 in
-    only_read all c.loop-item.tolds.items c.loop-item.place (subst (Reads all c.loop-item.tolds.items c.loop-item.place) none c.loop-item.invariant.0)
+    all_drawn c.args.limit c.args.bytes.now c.loop-item.place c.loop-item.draft (subst (Progress (lines_of c.args.limit c.args.bytes.now) c.loop-item.place c.loop-item.draft) none c.loop-item.invariant.0)
 
 pub returns-clause-no_fault : goal.returns-clause-no_fault
 returns-clause-no_fault c =
-    let all = lines_of c.args.limit c.args.bytes.now in
     let none = nothing_waits c.loop-item.feeder (c.in_default.ensures.none_waits.0 refl) c.loop-item.invariant.1 in
-    (subst (Reads all c.loop-item.tolds.items c.loop-item.place) none c.loop-item.invariant.0).failed
+    (subst (Progress (lines_of c.args.limit c.args.bytes.now) c.loop-item.place c.loop-item.draft) none c.loop-item.invariant.0).reads.failed
