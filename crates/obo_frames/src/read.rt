@@ -9,7 +9,8 @@ use crate::{DocFault, Document};
 use std::alloc::Global;
 
 /// The document of a file with lines of at most `line_limit` bytes, or its first fault: the least faulty line, and
-/// where all lines are read the least line at which a frame without an id begins or a short group does.
+/// where all lines are read the least line at which a frame without an id begins or a short group does. It takes time in
+/// proportion to the file and the ids that its placed clauses carry, times the logarithm of the number of groups.
 pub fn read_document(alloc: Global, bytes: &[u8], line_limit: u32) -> Result<Document, DocFault>
     requires { length bytes.now < 2 ^ 32 }
     ensures document { IfOk result (IsDocument line_limit bytes.now) }

@@ -36,6 +36,8 @@ x|name: 789 123456789 123456789 123456789 123456789 123456789 1 => Syntax 1 NoCo
 id: A:1|name: x|[Instance]|id: i|instance_of: A:1 => Header - 1 id 0, Header - 2 name 0, Instance i 4 id 0, Instance i 5 instance_of 0,
 [Typedef]|id: A:1|[Term]|id: A:1|xref: x {a=\"b\"} => Typedef A:1 2 id 0, Term A:1 4 id 0, Term A:1 5 xref 1,
 [Term]|id: B:1|name: x|[Term]|id: A:1|[Term]|id: B:1|comment: y => Term B:1 2 id 0, Term B:1 3 name 0, Term A:1 5 id 0, Term B:1 7 id 0, Term B:1 8 comment 0,
+format-version: 1.4|import: x|subsetdef: s \"t\"|[Term]|id: A:1|def: \"x\" [B:1 \"l\"]|synonym: \"y\" EXACT []|xref: C:1|is_a: A:2 ! b|relationship: r A:3|is_obsolete: true|treat: as it is => Header - 1 format-version 0, Header - 2 import 0, Header - 3 subsetdef 0, Term A:1 5 id 0, Term A:1 6 def 0, Term A:1 7 synonym 0, Term A:1 8 xref 0, Term A:1 9 is_a 0, Term A:1 10 relationship 0, Term A:1 11 is_obsolete 0, Term A:1 12 treat 0,
+[Typedef]|id: r|holds_over_chain: a b|[Instance]|id: i|property_value: p \"v\" xsd:int|property_value: p q => Typedef r 2 id 0, Typedef r 3 holds_over_chain 0, Instance i 5 id 0, Instance i 6 property_value 0, Instance i 7 property_value 0,
 [Term] => NoId 1
 [Term]|id: A:1|[Term] => NoId 3
 [Term]|id: A:1|[Typedef]|! x||[Term]|id: A:2 => NoId 3
