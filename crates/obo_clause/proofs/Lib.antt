@@ -1,0 +1,16 @@
+pub mod EndingLemmas
+pub mod FaultLemmas
+pub mod FieldLemmas
+pub mod FreeLemmas
+pub mod ListLemmas
+pub mod LoopLemmas
+pub mod RunLemmas
+pub mod RunningText
+pub mod ScanLemmas
+pub mod ShapeLemmas
+pub mod SignLemmas
+pub mod SlotLemmas
+pub mod TailLemmas
+pub mod ValuesFound
+pub mod ValuesRead
+pub mod WordLemmas

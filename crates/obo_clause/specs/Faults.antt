@@ -21,10 +21,10 @@ use Rattle.obo_clause.specs.Vocabulary.{comma, is_bare, is_entry_mark, is_one_of
 abbrev pub Wrong : Type 1
 Wrong = List Mark → SyntaxKind → Type 0
 
--- nothing is left, or the first mark is none of the class
-abbrev pub Stops : (Mark → Bool) → List Mark → Type 0
+-- nothing is left, or what comes first is none of the class
+abbrev pub Stops : {A : Type 0} → (A → Bool) → List A → Type 0
 Stops class [] = Unit {0}
-Stops class (mark ∷ marks) = IsFalse (class mark)
+Stops class (first ∷ rest) = IsFalse (class first)
 
 -- what is left behind all blanks with which the marks begin
 pub record IsBehindBlanks (marks rest : List Mark) : Type 0 where

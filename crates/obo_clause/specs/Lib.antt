@@ -2,6 +2,8 @@ pub mod Answers
 pub mod Faults
 pub mod Grammar
 pub mod Marks
+pub mod Reading
+pub mod ReadingLines
 pub mod Spelled
 pub mod Spelling
 pub mod Vocabulary

@@ -44,7 +44,10 @@ pub enum Value {
     /// A truth value, as of `is_obsolete`.
     Bool(bool),
     /// A definition and its dbxrefs.
-    Def { text: Bytes, xrefs: Items<Xref> },
+    Def {
+        text: Bytes,
+        xrefs: Items<Xref>,
+    },
     /// A synonym, its scope, its type if it has one, and its dbxrefs.
     Synonym {
         text: Bytes,
@@ -61,9 +64,15 @@ pub enum Value {
         datatype: Bytes,
     },
     /// A property and what it leads to, of `property_value`.
-    Link { relation: Bytes, target: Bytes },
+    Link {
+        relation: Bytes,
+        target: Bytes,
+    },
     /// A subset and its description.
-    SubsetDef { id: Bytes, text: Bytes },
+    SubsetDef {
+        id: Bytes,
+        text: Bytes,
+    },
     /// A synonym type, its description, and the scope that it implies, if it has one.
     SynonymDef {
         id: Bytes,

@@ -3,9 +3,18 @@
 //! clause that was read is printed as a line that spells it again.
 #![tactic(auto)]
 
+mod blocks;
+mod bytes;
 mod clause;
 mod line;
+mod lists;
+mod marks;
 mod reader;
+mod runs;
+mod scopes;
+#[cfg(test)]
+mod tests;
+mod values;
 
 pub use clause::{Clause, Qualifier, Scope, Value, Xref};
 pub use line::{Line, LineFault, SyntaxKind};

@@ -72,6 +72,14 @@ impl Dup for LineFault {
     }
 }
 
+impl From<SyntaxKind> for LineFault {
+    ghost from_gives = { λ one made. made ≡ fault.Syntax one };
+
+    fn from(one: SyntaxKind) -> LineFault {
+        LineFault::Syntax(one)
+    }
+}
+
 impl From<NoMemory> for LineFault {
     ghost from_gives = { λ _ made. made ≡ fault.NoMemory };
 
