@@ -1,0 +1,11 @@
+pub mod ListLemmas
+pub mod PlacingLemmas
+pub mod LeastLemmas
+pub mod ReadingLemmas
+pub mod GroupLemmas
+pub mod SpellingLemmas
+pub mod SoundLemmas
+pub mod LawLemmas
+pub mod FaultLemmas
+pub mod OneLemmas
+pub mod DraftLemmas

@@ -1,0 +1,101 @@
+-- What the definitions of documents amount to, in other words.
+use Rattle.std.specs.Prelude.{◌≡◌, ◌⊎◌, ◌≤◌, ℕ, Bool, List, [], None, Some, codes, Contains, map}
+use Rattle.std.specs.List.Sorted.{IsStrictlyIncreasing}
+use Rattle.obo_lexer.specs.Items.{lines_of}
+use Rattle.obo_lexer.specs.declared.line.LineBody.TheVariants as body
+use Rattle.obo_clause.specs.Spelling.{Spells}
+use Rattle.obo_clause.specs.declared.clause.Qualifier.{Qualifier}
+use Rattle.obo_frames.specs.Documents.{IsDocument, IsFirstFault, first_fault}
+use Rattle.obo_frames.specs.Frames.{Frame, frames_of, id_of, placed_of}
+use Rattle.obo_frames.specs.Groups.{name_of, operands_in}
+use Rattle.obo_frames.specs.Soundness.{GivesId}
+use Rattle.obo_frames.specs.declared.fault.DocFault.{DocFault}
+use Rattle.obo_frames.specs.declared.fault.DocFault.TheVariants as fault
+use Rattle.obo_frames.specs.declared.groups.Operand.{Operand}
+use Rattle.obo_frames.specs.declared.placed.Placed.{Placed}
+use Rattle.obo_frames.specs.declared.told.Told.{Told}
+
+-- ---- lines of placed clauses
+
+-- the clauses of a document stand in the order of their lines, one a line
+abbrev pub LinesRise : ℕ → List ℕ → Type 0
+LinesRise limit bytes =
+    (placed : List Placed) → IsDocument limit bytes placed → IsStrictlyIncreasing (map (λ one. one.line) placed)
+
+-- the qualifiers of a placed clause are those of its line; an `id` clause that gives its frame the id has none
+abbrev pub KeepsQualifiers : Placed → List Qualifier → Type 0
+KeepsQualifiers one qualifiers =
+    (one.clause.qualifiers ≡ qualifiers) ⊎ (GivesId one.id one × (one.clause.qualifiers ≡ []))
+
+-- the line that a placed clause names spells it, in a frame of its kind
+pub record IsSpelledByLine (limit : ℕ) (bytes : List ℕ) (one : Placed) : Type 0 where
+  pub text : List ℕ
+  pub stands : Contains (lines_of limit bytes) (record { number = one.line; body = body.Text text })
+  pub first : Bool
+  pub qualifiers : List Qualifier
+  pub spells : Spells one.frame first text (record one.clause { qualifiers = qualifiers })
+  pub keeps : KeepsQualifiers one qualifiers
+
+abbrev pub LinesSpell : ℕ → List ℕ → Type 0
+LinesSpell limit bytes =
+    (placed : List Placed) (one : Placed) → IsDocument limit bytes placed → Contains placed one → IsSpelledByLine limit bytes one
+
+-- ---- faults of frames
+
+-- the two tags whose clauses make groups
+pub data IsGroupTag : List ℕ → Type 0 where
+  intersection : IsGroupTag (codes "intersection_of")
+  union : IsGroupTag (codes "union_of")
+
+-- all clauses of the group of this one stand for its expression
+abbrev pub IsAlone : List Operand → Operand → Type 0
+IsAlone operands one =
+    (other : Operand) → Contains operands other → other.group ≡ one.group → other.expression ≡ one.expression
+
+-- a fault of the frames of these lines: a frame without an id, at its frame line, or a clause of a short group, at its line
+pub data FrameFails (tolds : List Told) : DocFault → Type 0 where
+  no_id : (frame : Frame) → Contains (frames_of tolds) frame → id_of frame.entries ≡ None → FrameFails tolds (fault.NoId frame.line)
+  short_group : (tag : List ℕ) (one : Operand) → IsGroupTag tag → Contains (operands_in tag (name_of (placed_of tolds)) (placed_of tolds)) one → IsAlone (operands_in tag (name_of (placed_of tolds)) (placed_of tolds)) one → FrameFails tolds (fault.ShortGroup one.line)
+
+-- the line that a fault names
+abbrev pub line_of : DocFault → ℕ
+line_of (fault.NotUtf8 line) = line
+line_of (fault.LineTooLong line) = line
+line_of (fault.Syntax line kind) = line
+line_of (fault.NoId line) = line
+line_of (fault.ShortGroup line) = line
+line_of fault.NoMemory = 0
+
+-- of all faults of the frames the one whose line is least
+pub record IsLeastFault (tolds : List Told) (one : DocFault) : Type 0 where
+  pub fails : FrameFails tolds one
+  pub least : (other : DocFault) → FrameFails tolds other → line_of one ≤ line_of other
+
+-- the first fault is the least of all, and without one there is none
+pub record FirstIsLeast (tolds : List Told) : Type 0 where
+  pub some : (one : DocFault) → first_fault tolds ≡ Some one → IsLeastFault tolds one
+  pub none : first_fault tolds ≡ None → (one : DocFault) → ¬ FrameFails tolds one
+
+abbrev pub FirstFaultIsLeast : Type 0
+FirstFaultIsLeast = (tolds : List Told) → FirstIsLeast tolds
+
+-- ---- documents and faults
+
+-- a file is a document, or has a first fault
+abbrev pub IsDocumentOrFault : ℕ → List ℕ → Type 0
+IsDocumentOrFault limit bytes =
+    ((placed : List Placed) × IsDocument limit bytes placed) ⊎ ((one : DocFault) × IsFirstFault limit bytes one)
+
+-- and never both
+abbrev pub IsNeverBoth : ℕ → List ℕ → Type 0
+IsNeverBoth limit bytes =
+    (placed : List Placed) (one : DocFault) → IsDocument limit bytes placed → ¬ IsFirstFault limit bytes one
+
+-- it is one document at most, and has one first fault at most
+abbrev pub IsOneDocument : ℕ → List ℕ → Type 0
+IsOneDocument limit bytes =
+    (one other : List Placed) → IsDocument limit bytes one → IsDocument limit bytes other → one ≡ other
+
+abbrev pub HasOneFault : ℕ → List ℕ → Type 0
+HasOneFault limit bytes =
+    (one other : DocFault) → IsFirstFault limit bytes one → IsFirstFault limit bytes other → one ≡ other

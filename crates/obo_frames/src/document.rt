@@ -1,0 +1,77 @@
+//! `Document`: the placed clauses of a file.
+ghost use Rattle.std.specs.Prelude.{◌≡◌, ◌<◌, IfOk, Some, length, slice_get};
+ghost use Rattle.obo_frames.specs.Soundness.{IsSound};
+
+use crate::Placed;
+use rel_io::{Dup, NoMemory};
+use std::alloc::Global;
+use std::marker::Model;
+
+/// A document, seen as the list of its placed clauses. Some line spells each of them in its frame. Clauses of the
+/// header, and they alone, have an empty id. Each other frame has an `id` clause with its id and without qualifiers, and
+/// no Term has a group of one expression alone.
+#[derive(Debug, Drop)]
+pub struct Document {
+    placed: Vec<Placed>,
+}
+
+impl Model for Document {
+    ghost use Rattle.std.specs.Prelude.{List};
+    ghost use Rattle.std.specs.Coded.{codes};
+    ghost use Rattle.obo_frames.specs.Soundness.{IsSound};
+    ghost use Rattle.obo_frames.specs.contracts.placed.Placed as row;
+    ghost use Rattle.obo_frames.specs.declared.placed.Placed.{Placed};
+
+    ghost Value = { List Placed };
+
+    ghost coded = { Prim.hlevel (codes, row.the_row.coded) };
+
+    ghost view = { λ document. document.placed.items };
+
+    ghost invariant = { λ document. IsSound document.placed.items };
+}
+
+impl Document {
+    /// The document of these placed clauses. It takes no memory.
+    pub fn of(placed: Vec<Placed>) -> Document
+        requires { IsSound placed.items }
+        ensures { result ≡ placed.items }
+    {
+        Document { placed }
+    }
+
+    /// How many clauses are placed. What every document keeps is told here.
+    pub fn len(&self) -> usize
+        ensures len { result ≡ length self.now }
+        ensures sound { IsSound self.now }
+    {
+        self.placed.len()
+    }
+
+    /// The clause at a place, from 0.
+    pub fn get(&self, at: usize) -> &Placed
+        requires { at < length self.now }
+        ensures { slice_get self.now at ≡ Some result.now }
+    {
+        &self.placed[at]
+    }
+}
+
+impl Dup for Document {
+    fn copy(&self, alloc: Global) -> Result<Document, NoMemory> {
+        let placed = copies(alloc, self.placed.as_slice())?;
+        Ok(Document { placed })
+    }
+}
+
+/// A copy of each placed clause, in order.
+fn copies(alloc: Global, placed: &[Placed]) -> Result<Vec<Placed>, NoMemory>
+    ensures { IfOk result (λ twins. twins.items ≡ placed.now) }
+{
+    let mut twins = Vec::with_capacity(alloc, placed.len())?;
+    for one in placed {
+        let twin = one.copy(alloc)?;
+        twins.push(twin)?;
+    }
+    Ok(twins)
+}

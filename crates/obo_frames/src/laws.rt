@@ -1,0 +1,15 @@
+//! What the definitions of this crate amount to. Each law is the contract of a function that does nothing.
+ghost use Rattle.obo_frames.specs.Laws.{FirstFaultIsLeast, LinesRise, LinesSpell};
+
+/// The clauses of a document stand in the order of their lines, and each is spelled by the line that it names; of an
+/// `id` clause that gives a frame its id the qualifiers are not kept.
+pub fn lines_are_placed(bytes: &[u8], line_limit: u32)
+    ensures rise { LinesRise line_limit bytes.now }
+    ensures spell { LinesSpell line_limit bytes.now }
+{}
+
+/// Of all frames without an id and all clauses of short groups the first fault names the least line; without one there
+/// is neither.
+pub fn first_fault_is_least()
+    ensures { FirstFaultIsLeast }
+{}

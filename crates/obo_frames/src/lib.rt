@@ -1,0 +1,25 @@
+//! Documents. The lines of a file are read, each in the frame in which it stands; its clauses, each with the id of its
+//! frame and the number of its line, are the document. Where a line is faulty, or else a frame has no id or a Term a
+//! group of one expression alone, the least such line is named. The layers above speak of documents alone, and of what
+//! every document keeps.
+#![tactic(auto)]
+
+mod document;
+mod fault;
+mod groups;
+mod laws;
+mod lines;
+mod name;
+mod placed;
+mod read;
+mod standing;
+mod told;
+
+pub use document::Document;
+pub use fault::DocFault;
+pub use laws::{first_fault_is_least, lines_are_placed};
+pub use placed::Placed;
+pub use read::read_document;
+
+#[cfg(test)]
+mod tests;

@@ -1,0 +1,61 @@
+//! The name of the ontology, as the header of a document gives it.
+ghost use Rattle.std.specs.Prelude.{◌≡◌, IfOk};
+ghost use Rattle.std.specs.Option.{option_copied, option_map};
+ghost use Rattle.iri_map.specs.Ontology.{normalised};
+ghost use Rattle.obo_frames.specs.Groups as spec;
+
+use crate::Placed;
+use crate::standing::word_in;
+use iri_map::{name_or_temp, ontology_iri, ontology_value};
+use obo_tags::FrameKind;
+use rel_io::{Bytes, NoMemory};
+use std::alloc::Global;
+use std::cmp::Ordering;
+
+/// The least of the normalised names that the header gives, or what stands in place of one.
+pub fn name_of(alloc: Global, placed: &[Placed]) -> Result<Bytes, NoMemory>
+    ensures { IfOk result (λ name. name ≡ spec.name_of placed.now) }
+{
+    let mut best = None;
+    for one in placed {
+        if let Some(value) = ontology_in(one) {
+            let text = normalised(alloc, value)?;
+            best = Some(lesser_text(best, text));
+        }
+    }
+    name_or_temp(alloc, best.as_ref())
+}
+
+/// The value of an `ontology` clause of the header.
+fn ontology_in(placed: &Placed) -> Option<&Bytes>
+    ensures { option_copied result ≡ spec.ontology_in placed.now }
+{
+    if matches!(placed.frame, FrameKind::Header)
+        && placed.clause.tag.as_slice() == b"ontology".as_slice()
+    {
+        word_in(&placed.clause.value)
+    } else {
+        None
+    }
+}
+
+/// The normalised value of a name.
+fn normalised(alloc: Global, value: &Bytes) -> Result<Bytes, NoMemory>
+    ensures { IfOk result (λ name. name ≡ normalised value.now) }
+{
+    let iri = ontology_iri(alloc, value)?;
+    ontology_value(alloc, &iri)
+}
+
+/// The lesser of two texts, the first of which may be missing.
+fn lesser_text(best: Option<Bytes>, text: Bytes) -> Bytes
+    ensures { result ≡ spec.lesser_text best text }
+{
+    match best {
+        Some(best) => match text.cmp(&best) {
+            Ordering::Less => text,
+            _ => best,
+        },
+        None => text,
+    }
+}
