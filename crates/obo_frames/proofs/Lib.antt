@@ -9,3 +9,4 @@ pub mod LawLemmas
 pub mod FaultLemmas
 pub mod OneLemmas
 pub mod DraftLemmas
+pub mod AnswerLemmas

@@ -1,3 +1,4 @@
+pub mod Answer
 pub mod Documents
 pub mod Frames
 pub mod Groups

@@ -1,4 +1,5 @@
 //! What the definitions of this crate amount to. Each law is the contract of a function that does nothing.
+ghost use Rattle.obo_frames.specs.Answer.{IsExact};
 ghost use Rattle.obo_frames.specs.Laws.{FirstFaultIsLeast, LinesRise, LinesSpell};
 
 /// The clauses of a document stand in the order of their lines, and each is spelled by the line that it names; of an
@@ -12,4 +13,10 @@ pub fn lines_are_placed(bytes: &[u8], line_limit: u32)
 /// is neither.
 pub fn first_fault_is_least()
     ensures { FirstFaultIsLeast }
+{}
+
+/// The function that tells what a file comes to tells its document exactly where it has one, and its first fault exactly
+/// where it has one.
+pub fn file_is_told(bytes: &[u8], line_limit: u32)
+    ensures { IsExact line_limit bytes.now }
 {}

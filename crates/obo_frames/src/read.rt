@@ -1,5 +1,6 @@
 //! `read_document`: the document of a file, or its first fault.
 ghost use Rattle.std.specs.Prelude.{◌≡◌, ◌^◌, ◌<◌, IfErr, IfOk, length};
+ghost use Rattle.obo_frames.specs.Answer.{AnswersIt};
 ghost use Rattle.obo_frames.specs.Documents.{AnswersDocument, AnswersFault, IsDocument, IsFaultOf, frame_fault};
 
 use crate::groups::short_line;
@@ -10,8 +11,20 @@ use std::alloc::Global;
 
 /// The document of a file with lines of at most `line_limit` bytes, or its first fault: the least faulty line, and
 /// where all lines are read the least line at which a frame without an id begins or a short group does. It takes time in
-/// proportion to the file and the ids that its placed clauses carry, times the logarithm of the number of groups.
+/// proportion to the bytes, but for the maps of the groups.
 pub fn read_document(alloc: Global, bytes: &[u8], line_limit: u32) -> Result<Document, DocFault>
+    requires { length bytes.now < 2 ^ 32 }
+    ensures document { IfOk result (IsDocument line_limit bytes.now) }
+    ensures read { AnswersDocument line_limit bytes.now result }
+    ensures fault { IfErr result (IsFaultOf line_limit bytes.now) }
+    ensures refused { AnswersFault line_limit bytes.now result }
+    ensures answer { AnswersIt line_limit bytes.now result }
+{
+    judged(alloc, bytes, line_limit)
+}
+
+/// The document of a file, or its first fault.
+fn judged(alloc: Global, bytes: &[u8], line_limit: u32) -> Result<Document, DocFault>
     requires { length bytes.now < 2 ^ 32 }
     ensures document { IfOk result (IsDocument line_limit bytes.now) }
     ensures read { AnswersDocument line_limit bytes.now result }

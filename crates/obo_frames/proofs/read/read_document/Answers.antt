@@ -1,19 +1,5 @@
-use Rattle.std.proofs.Common.{None, ap, inl, subst, sym, ◌∙◌}
-use Rattle.obo_frames.specs.Documents.{least_line, of_frame}
-use Rattle.obo_frames.specs.Groups.{short_lines}
-use Rattle.obo_frames.specs.Soundness.{IsKept}
-use Rattle.obo_frames.proofs.DraftLemmas.{fault_found}
-use Rattle.obo_frames.proofs.SoundLemmas.{kept_all}
+use Rattle.obo_frames.proofs.AnswerLemmas.{answers_it}
 use Rattle.obo_frames.proofs.read.read_document.Goals as goal
 
-pub of-requires : goal.of-requires
-of-requires c =
-    let read = c.in_ok-draft.ensures.read in
-    let found = fault_found _ _ c.in_ok-draft.draft read _ _ _ c.lost_at_end-lost.ensures (c.in_ok-short.ensures ∙ ap (λ placed. least_line None (short_lines placed)) c.as_slice.ensures.value) c.frame_fault.ensures in
-    ∣ subst IsKept (sym read.in_places) (kept_all c.args.line_limit c.args.bytes.now read.tolds read.tells (found ∙ c.in-None.is)) ∣₁
-
-pub returns-in-Some-clause-fault : goal.returns-in-Some-clause-fault
-returns-in-Some-clause-fault c =
-    let read = c.in_ok-draft.ensures.read in
-    let found = fault_found _ _ c.in_ok-draft.draft read _ _ _ c.lost_at_end-lost.ensures (c.in_ok-short.ensures ∙ ap (λ placed. least_line None (short_lines placed)) c.as_slice.ensures.value) c.frame_fault.ensures in
-    inl (of_frame read.tolds read.tells (found ∙ c.in-Some.is))
+pub returns-clause-answer : goal.returns-clause-answer
+returns-clause-answer c = answers_it c.args.line_limit c.args.bytes.now c.judged.result c.judged.ensures.document c.judged.ensures.fault
