@@ -130,6 +130,7 @@ frame-err bytes one h = go (went-wrong (wanted syntax.BadFrame (frame_name bytes
     step : (named : Named) (b : Bool) → cond {A = Answer Line} b (Ok (says.Frame named.0)) (Err syntax.BadFrame) ≡ Err one → syntax.BadFrame ≡ one
     step named true h = cc
     step named false h = cc
+
     go : WentWrong (wanted syntax.BadFrame (frame_name bytes)) frame_on one → syntax.BadFrame ≡ one
     go (WentWrong.at_once e) = (wanted-missing syntax.BadFrame one (frame_name bytes) e).1
     go (WentWrong.later named e is) = step named (is_line_comment (behind is_blank named.1)) is
@@ -202,6 +203,7 @@ tagged-answer kind first line tag rest is = go p.body p.at p.colon p.begins p.so
   where
     p : TagParts line tag rest
     p = tag-parts line tag rest is
+
     go : (body : List ℕ) → behind is_blank line ≡ body → at_colon body ≡ Some (tag ++ p.between, rest) → ((byte : ℕ) (bytes : List ℕ) → body ≡ byte ∷ bytes → is_tag_byte byte ≡ true) → (body ≡ [] → ⊥) → answer_to kind first line ≡ read_tagged kind first tag rest
     go [] at colon begins some = absurd (some refl)
     go (byte ∷ bytes) at colon begins some =
