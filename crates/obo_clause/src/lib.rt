@@ -8,12 +8,12 @@ mod bytes;
 mod clause;
 mod laws;
 mod line;
+mod lists;
+mod marks;
 mod print_laws;
 #[cfg(test)]
 mod print_tests;
 mod printer;
-mod lists;
-mod marks;
 mod reader;
 mod runs;
 mod scopes;

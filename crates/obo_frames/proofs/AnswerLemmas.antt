@@ -1,5 +1,5 @@
 -- The function that tells what a file comes to agrees with what the lines of the file say.
-use Rattle.std.proofs.Common.{◌≡◌, ◌⊎◌, inl, inr, ℕ, Bool, List, [], ◌∷◌, Option, None, Some, Result, Ok, Err, ap, refl, subst, sym}
+use Rattle.std.proofs.Common.{◌≡◌, inl, inr, ℕ, Bool, List, [], ◌∷◌, Option, None, Some, Result, Ok, Err, ap, refl, subst, sym}
 use Rattle.std.specs.Result.{IfErr, IfOk}
 use Rattle.obo_lexer.specs.Items.{lines_of}
 use Rattle.obo_lexer.specs.declared.line.LineBody.{LineBody}
@@ -16,7 +16,6 @@ use Rattle.obo_frames.specs.Documents.{IsDocument, IsFaultOf, IsFirstFault, firs
 use Rattle.obo_frames.specs.Frames.{placed_of}
 use Rattle.obo_frames.specs.Telling.{BodyFails, BodySays, FailsFirst, IsTold, Tells, behind, not_utf8, start, syntax, too_long}
 use Rattle.obo_frames.specs.declared.fault.DocFault.{DocFault}
-use Rattle.obo_frames.specs.declared.fault.DocFault.TheVariants as fault
 use Rattle.obo_frames.specs.declared.placed.Placed.{Placed}
 use Rattle.obo_frames.specs.declared.told.Place.{Place}
 use Rattle.obo_frames.specs.declared.told.Told.{Told}

@@ -1,19 +1,23 @@
--- Two endings of a chain: where its input was not read, and where its output was not written.
-use Rattle.std.proofs.Common.{◌≡◌, ℕ, ◌≤◌, List, [], ◌∷◌, Option, Some, None, Ok, Err, IfSome, IsOk, true, false, if◌then◌else◌, length, nat_le, ◌<◌, refl, sym, ap, ◌∙◌, arith, le-leb}
+-- Three endings of a chain: where its input was not read, where it is no document, and where its output was not written.
+use Rattle.std.proofs.Common.{◌≡◌, ⊎_elim, Result, ℕ, ◌≤◌, List, [], ◌∷◌, Option, Some, None, Ok, Err, IfSome, IsOk, true, false, if◌then◌else◌, length, nat_le, ◌<◌, refl, sym, ap, ◌∙◌, arith, le-leb}
 use Rattle.std.proofs.lemmas.Bool.{lt-leb}
 use Rattle.std.specs.FinMap.{get}
 use Rattle.std.specs.Option.{option_map}
 use Rattle.rel_io.proofs.Options.{at_some, if_some}
 use Rattle.rel_io.specs.Folder.{WriteFailed}
 use Rattle.rel_io.specs.FolderState.{Files, FolderState, NoCountFell}
+use Rattle.obo_frames.specs.Answer.{AnswersIt, document_of}
+use Rattle.obo_frames.specs.declared.fault.DocFault.{DocFault}
+use Rattle.obo_frames.specs.declared.fault.DocFault.TheVariants as doc
+use Rattle.obo_frames.specs.declared.placed.Placed.{Placed}
 use Rattle.release_chain.specs.Built.{unbuilt_line}
-use Rattle.release_chain.specs.Ending.{Ends, fault_of_input}
+use Rattle.release_chain.specs.Ending.{Ends, Runs, fault_of_input}
 use Rattle.release_chain.specs.Lines.{Line, lines_of}
 use Rattle.release_chain.specs.Mapping.{ontology_of}
 use Rattle.release_chain.specs.Text.{obo_text}
 use Rattle.release_chain.specs.ReadFile.{ReadsFile}
 use Rattle.release_chain.specs.Release.{EndsAs, StoppedAtOutput, WriteFaultCaused}
-use Rattle.release_chain.specs.Run.{Run, after_outputs, byte_limit, refuses, run, run_chain, run_input, run_lines, writes}
+use Rattle.release_chain.specs.Run.{Run, after_outputs, byte_limit, fault_in, line_limit, refuses, run, run_bytes, run_chain, run_document, run_input, run_lines, writes}
 use Rattle.release_chain.specs.Words.{Word, chain}
 use Rattle.release_chain.specs.declared.fault.Fault.{Fault}
 use Rattle.release_chain.specs.declared.fault.Fault.TheVariants.{MissingInput, TooManyBytes}
@@ -21,12 +25,20 @@ use Rattle.release_chain.specs.declared.input.FileFault.{FileFault}
 use Rattle.release_chain.specs.declared.input.FileFault.TheVariants as file
 use Rattle.release_chain.specs.declared.words.Paths.{Paths}
 
--- the run of an input that is held, short enough, and built
-run_input-built : (paths : Paths) (held : _) (bytes : List ℕ) → held ≡ Some bytes → length bytes ≤ byte_limit → unbuilt_line (lines_of bytes) ≡ None → run_input paths held ≡ writes paths (ontology_of (lines_of bytes))
-run_input-built paths held bytes is short built =
+-- the run of an input that is held and short enough
+run_input-short : (paths : Paths) (held : Option (List ℕ)) (bytes : List ℕ) → held ≡ Some bytes → length bytes ≤ byte_limit → run_input paths held ≡ run_bytes paths bytes
+run_input-short paths held bytes is short =
     ap (run_input paths) is
-    ∙ ap (λ b. if b then run_lines paths (lines_of bytes) (unbuilt_line (lines_of bytes)) else refuses paths (TooManyBytes paths.input byte_limit)) (le-leb (length bytes) byte_limit short)
-    ∙ ap (run_lines paths (lines_of bytes)) built
+    ∙ ap (λ b. if b then run_bytes paths bytes else refuses paths (TooManyBytes paths.input byte_limit)) (le-leb (length bytes) byte_limit short)
+
+-- an answer that is a document is that of the file
+document_is : (bytes : List ℕ) (placed : List Placed) → AnswersIt line_limit bytes (Ok placed) → document_of line_limit bytes ≡ Ok placed
+document_is bytes placed answer = ⊎_elim (λ is. sym is) (λ none. let h : Ok placed ≡ Err doc.NoMemory = none in absurd (cc)) answer
+
+-- the run of bytes that are a document and built
+run_bytes-built : (paths : Paths) (bytes : List ℕ) (placed : List Placed) → AnswersIt line_limit bytes (Ok placed) → unbuilt_line (lines_of bytes) ≡ None → run_bytes paths bytes ≡ writes paths (ontology_of (lines_of bytes))
+run_bytes-built paths bytes placed answer built =
+    ap (run_document paths (lines_of bytes)) (document_is bytes placed answer) ∙ ap (run_lines paths (lines_of bytes)) built
 
 -- a chain has a known run only where the held files are told
 record Known (before : FolderState) (paths : Paths) (r : Run) : Type 0 where
@@ -54,11 +66,15 @@ run_lines-openings : (paths : Paths) (lines : List Line) (unbuilt : Option ℕ) 
 run_lines-openings paths lines None = refl
 run_lines-openings paths lines (Some line) = refl
 
+run_document-openings : (paths : Paths) (lines : List Line) (document : Result (List Placed) DocFault) → (run_document paths lines document).openings ≡ record { name = paths.input; behind = [] } ∷ []
+run_document-openings paths lines (Ok placed) = run_lines-openings paths lines (unbuilt_line lines)
+run_document-openings paths lines (Err one) = refl
+
 run_input-openings : (paths : Paths) (held : Option (List ℕ)) → (run_input paths held).openings ≡ record { name = paths.input; behind = [] } ∷ []
 run_input-openings paths None = refl
 run_input-openings paths (Some bytes) =
-    elim (nat_le (length bytes) byte_limit) as (λ b. (if b then run_lines paths (lines_of bytes) (unbuilt_line (lines_of bytes)) else refuses paths (TooManyBytes paths.input byte_limit)).openings ≡ record { name = paths.input; behind = [] } ∷ []) [
-      | true ↦ run_lines-openings paths (lines_of bytes) (unbuilt_line (lines_of bytes))
+    elim (nat_le (length bytes) byte_limit) as (λ b. (if b then run_bytes paths bytes else refuses paths (TooManyBytes paths.input byte_limit)).openings ≡ record { name = paths.input; behind = [] } ∷ []) [
+      | true ↦ run_document-openings paths (lines_of bytes) (document_of line_limit bytes)
       | false ↦ refl
     ]
 
@@ -66,7 +82,7 @@ run_input-openings paths (Some bytes) =
 run_input-long : (paths : Paths) (held : Option (List ℕ)) (bytes : List ℕ) → held ≡ Some bytes → byte_limit < length bytes → run_input paths held ≡ refuses paths (TooManyBytes paths.input byte_limit)
 run_input-long paths held bytes is long =
     ap (run_input paths) is
-    ∙ ap (λ b. if b then run_lines paths (lines_of bytes) (unbuilt_line (lines_of bytes)) else refuses paths (TooManyBytes paths.input byte_limit)) (lt-leb (length bytes) byte_limit long)
+    ∙ ap (λ b. if b then run_bytes paths bytes else refuses paths (TooManyBytes paths.input byte_limit)) (lt-leb (length bytes) byte_limit long)
 
 -- the run refuses its input, and nothing was written
 ends_refused : (before now : FolderState) (paths : Paths) (fault : Fault) (r : Run) → r ≡ refuses paths fault → now.holds ≡ before.holds → EndsAs r before (Some fault) now
@@ -110,11 +126,49 @@ input_failed words before now paths file.TooManyBytes accepted long same = recor
 input_failed words before now paths file.NoMemory accepted free same =
     if_some _ (run words before.holds) (λ r e. record { written = []; rest = r.outputs; outputs = refl; wrote = same ∙ wrote_nothing before.holds })
 
-stopped_at_output : (words : List Word) (before mid now : FolderState) (paths : Paths) (bytes : List ℕ) (r : Run) → chain words ≡ Ok paths → IfSome before.holds (λ files. get files paths.input ≡ Some bytes) → length bytes ≤ byte_limit → unbuilt_line (lines_of bytes) ≡ None
+-- the run of an input that is no document
+faulty_run : (paths : Paths) (held : Option (List ℕ)) (bytes : List ℕ) (one : DocFault) → held ≡ Some bytes → length bytes ≤ byte_limit → Err one ≡ document_of line_limit bytes → run_input paths held ≡ refuses paths (fault_in paths.input one)
+faulty_run paths held bytes one is short faulty =
+    run_input-short paths held bytes is short
+    ∙ ap (run_document paths (lines_of bytes)) (sym faulty)
+
+-- a fault, if there is one
+fault_of : Result (List Placed) DocFault → DocFault
+fault_of (Ok placed) = doc.NoMemory
+fault_of (Err one) = one
+
+-- an answered fault that is not want of memory is that of the file
+fault_is : (bytes : List ℕ) (one : DocFault) → ¬ (one ≡ doc.NoMemory) → AnswersIt line_limit bytes (Err one) → Err one ≡ document_of line_limit bytes
+unfolding fault_of
+fault_is bytes one other answer = ⊎_elim (λ is. is) (λ none. absurd (other (ap fault_of none))) answer
+
+-- such a run ended, with the fault of the file
+document_runs : (words : List Word) (before now : FolderState) (paths : Paths) (bytes : List ℕ) (one : DocFault) → ¬ (one ≡ doc.NoMemory) → chain words ≡ Ok paths → IfSome before.holds (λ files. get files paths.input ≡ Some bytes) → length bytes ≤ byte_limit
+    → AnswersIt line_limit bytes (Err one) → now.holds ≡ before.holds → Runs words before (Some (fault_in paths.input one)) now
+document_runs words before now paths bytes one other accepted held short answer same = record {
+  accepted = rw accepted refl;
+  ending = if_some _ (run words before.holds) (λ r e.
+      let known = known_run words before paths r accepted e in
+      let is : r ≡ refuses paths (fault_in paths.input one) = sym known.is ∙ faulty_run paths (get known.files paths.input) bytes one (at_some _ known.told held) short (fault_is bytes one other answer) in
+      ends_refused before now paths (fault_in paths.input one) r is same);
+}
+
+-- the input is no document, or memory ran out
+pub document_failed : (words : List Word) (before now : FolderState) (paths : Paths) (bytes : List ℕ) (one : DocFault) → chain words ≡ Ok paths → IfSome before.holds (λ files. get files paths.input ≡ Some bytes) → length bytes ≤ byte_limit → AnswersIt line_limit bytes (Err one) → now.holds ≡ before.holds
+    → Ends words before (Err (fault_in paths.input one)) now
+document_failed words before now paths bytes (doc.NotUtf8 line) accepted held short answer same = document_runs words before now paths bytes (doc.NotUtf8 line) (λ e. let h : doc.NotUtf8 line ≡ doc.NoMemory = e in absurd (cc)) accepted held short answer same
+document_failed words before now paths bytes (doc.LineTooLong line) accepted held short answer same = document_runs words before now paths bytes (doc.LineTooLong line) (λ e. let h : doc.LineTooLong line ≡ doc.NoMemory = e in absurd (cc)) accepted held short answer same
+document_failed words before now paths bytes (doc.Syntax line kind) accepted held short answer same = document_runs words before now paths bytes (doc.Syntax line kind) (λ e. let h : doc.Syntax line kind ≡ doc.NoMemory = e in absurd (cc)) accepted held short answer same
+document_failed words before now paths bytes (doc.NoId line) accepted held short answer same = document_runs words before now paths bytes (doc.NoId line) (λ e. let h : doc.NoId line ≡ doc.NoMemory = e in absurd (cc)) accepted held short answer same
+document_failed words before now paths bytes (doc.ShortGroup line) accepted held short answer same = document_runs words before now paths bytes (doc.ShortGroup line) (λ e. let h : doc.ShortGroup line ≡ doc.NoMemory = e in absurd (cc)) accepted held short answer same
+document_failed words before now paths bytes doc.NoMemory accepted held short answer same =
+    if_some _ (run words before.holds) (λ r e. record { written = []; rest = r.outputs; outputs = refl; wrote = same ∙ wrote_nothing before.holds })
+
+stopped_at_output : (words : List Word) (before mid now : FolderState) (paths : Paths) (bytes : List ℕ) (placed : List Placed) (r : Run) → chain words ≡ Ok paths → IfSome before.holds (λ files. get files paths.input ≡ Some bytes) → length bytes ≤ byte_limit → AnswersIt line_limit bytes (Ok placed) → unbuilt_line (lines_of bytes) ≡ None
     → mid.holds ≡ before.holds → WriteFailed paths.output mid now → run words before.holds ≡ Some r → StoppedAtOutput r before paths.output now
-stopped_at_output words before mid now paths bytes r accepted held short built same failed e =
+stopped_at_output words before mid now paths bytes placed r accepted held short answer built same failed e =
     let known = known_run words before paths r accepted e in
-    let is : r ≡ writes paths (ontology_of (lines_of bytes)) = sym known.is ∙ run_input-built paths (get known.files paths.input) bytes (at_some _ known.told held) short built in
+    let is : r ≡ writes paths (ontology_of (lines_of bytes)) = sym known.is ∙ run_input-short paths (get known.files paths.input) bytes (at_some _ known.told held) short ∙ run_bytes-built paths bytes placed answer built in
     record {
       written = [];
       output = record { name = paths.output; ontology = ontology_of (lines_of bytes); bytes = obo_text (ontology_of (lines_of bytes)) };
@@ -127,12 +181,12 @@ stopped_at_output words before mid now paths bytes r accepted held short built s
     }
 
 -- the put of the output failed: nothing is known of it, and all else is as it was
-pub write_failed : (words : List Word) (before mid now : FolderState) (paths : Paths) (bytes : List ℕ) → chain words ≡ Ok paths → IfSome before.holds (λ files. get files paths.input ≡ Some bytes) → length bytes ≤ byte_limit → unbuilt_line (lines_of bytes) ≡ None
+pub write_failed : (words : List Word) (before mid now : FolderState) (paths : Paths) (bytes : List ℕ) (placed : List Placed) → chain words ≡ Ok paths → IfSome before.holds (λ files. get files paths.input ≡ Some bytes) → length bytes ≤ byte_limit → AnswersIt line_limit bytes (Ok placed) → unbuilt_line (lines_of bytes) ≡ None
     → mid.holds ≡ before.holds → NoCountFell before mid → WriteFailed paths.output mid now → IsOk (chain words) × WriteFaultCaused words before paths.output now
-write_failed words before mid now paths bytes accepted held short built same counts failed = (
+write_failed words before mid now paths bytes placed accepted held short answer built same counts failed = (
   rw accepted refl,
   record {
     counted = let h = counts.write_faults in let k = failed.counted in omega arith;
-    stopped = if_some _ (run words before.holds) (λ r e. stopped_at_output words before mid now paths bytes r accepted held short built same failed e);
+    stopped = if_some _ (run words before.holds) (λ r e. stopped_at_output words before mid now paths bytes placed r accepted held short answer built same failed e);
   },
 )

@@ -8,12 +8,15 @@ use Rattle.std.specs.Ordering.{is_eq}
 use Rattle.std.specs.Result.{result_err}
 use Rattle.rel_io.proofs.Options.{at_some, if_some}
 use Rattle.rel_io.specs.FolderState.{Files, FolderState}
+use Rattle.obo_frames.specs.Answer.{document_of}
+use Rattle.obo_frames.specs.declared.fault.DocFault.{DocFault}
+use Rattle.obo_frames.specs.declared.placed.Placed.{Placed}
 use Rattle.release_chain.specs.Built.{unbuilt_line}
 use Rattle.release_chain.specs.Lines.{Line, lines_of}
 use Rattle.release_chain.specs.Ending.{Ends}
 use Rattle.release_chain.specs.Mapping.{ontology_of}
 use Rattle.release_chain.specs.Release.{IsReleased}
-use Rattle.release_chain.specs.Run.{Output, Run, after_outputs, byte_limit, refuses, run, run_chain, run_input, run_lines}
+use Rattle.release_chain.specs.Run.{Output, Run, after_outputs, byte_limit, line_limit, refuses, run, run_bytes, run_chain, run_document, run_input, run_lines}
 use Rattle.release_chain.specs.Text.{obo_text}
 use Rattle.release_chain.specs.Words.{Word, chain}
 use Rattle.release_chain.specs.declared.fault.Fault.{Fault}
@@ -40,11 +43,15 @@ lines_write paths lines None output here =
     (λ none. absurd (none_in_nothing output none))
     (first_or_later (record { name = paths.output; ontology = ontology_of lines; bytes = obo_text (ontology_of lines) }) [] output here)
 
+document_writes : (paths : Paths) (lines : List Line) (document : Result (List Placed) DocFault) → WritesOne (run_document paths lines document)
+document_writes paths lines (Ok placed) = lines_write paths lines (unbuilt_line lines)
+document_writes paths lines (Err one) = λ output here. absurd (none_in_nothing output here)
+
 input_writes : (paths : Paths) (held : Option (List ℕ)) → WritesOne (run_input paths held)
 input_writes paths None = λ output here. absurd (none_in_nothing output here)
 input_writes paths (Some bytes) =
-    elim (nat_le (length bytes) byte_limit) as (λ b. WritesOne (if b then run_lines paths (lines_of bytes) (unbuilt_line (lines_of bytes)) else refuses paths (TooManyBytes paths.input byte_limit))) [
-      | true ↦ lines_write paths (lines_of bytes) (unbuilt_line (lines_of bytes))
+    elim (nat_le (length bytes) byte_limit) as (λ b. WritesOne (if b then run_bytes paths bytes else refuses paths (TooManyBytes paths.input byte_limit))) [
+      | true ↦ document_writes paths (lines_of bytes) (document_of line_limit bytes)
       | false ↦ λ output here. absurd (none_in_nothing output here)
     ]
 

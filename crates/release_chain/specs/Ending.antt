@@ -6,7 +6,7 @@ use Rattle.release_chain.specs.Release.{EndsAs, ReadFaultCaused, WriteFaultCause
 use Rattle.release_chain.specs.Run.{byte_limit, run}
 use Rattle.release_chain.specs.Words.{Word, chain}
 use Rattle.release_chain.specs.declared.fault.Fault.{Fault}
-use Rattle.release_chain.specs.declared.fault.Fault.TheVariants.{BadWord, MissingInput, TooManyBytes, LineNotBuilt, ReadFault, WriteFault, NoMemory}
+use Rattle.release_chain.specs.declared.fault.Fault.TheVariants.{BadWord, MissingInput, TooManyBytes, NotUtf8, LineTooLong, Syntax, NoId, ShortGroup, LineNotBuilt, ReadFault, WriteFault, NoMemory}
 use Rattle.release_chain.specs.declared.fault.WordKind.{WordKind}
 use Rattle.release_chain.specs.declared.words.Paths.{Paths}
 use Rattle.release_chain.specs.declared.input.FileFault.{FileFault}
@@ -17,6 +17,11 @@ abbrev pub RefusesWords : List Word → Fault → Type 0
 RefusesWords words (BadWord index kind) = chain words ≡ Err (record { index = index; kind = kind })
 RefusesWords words (MissingInput name) = ⊥
 RefusesWords words (TooManyBytes name limit) = ⊥
+RefusesWords words (NotUtf8 file line) = ⊥
+RefusesWords words (LineTooLong file line) = ⊥
+RefusesWords words (Syntax file line kind) = ⊥
+RefusesWords words (NoId file line) = ⊥
+RefusesWords words (ShortGroup file line) = ⊥
 RefusesWords words (LineNotBuilt file line) = ⊥
 RefusesWords words (ReadFault name) = ⊥
 RefusesWords words (WriteFault name) = ⊥
@@ -45,6 +50,11 @@ Ends words before (Ok done) now = Runs words before None now
 Ends words before (Err (BadWord index kind)) now = IsNoChain words before index kind now
 Ends words before (Err (MissingInput name)) now = Runs words before (Some (MissingInput name)) now × Rose before.misses now.misses
 Ends words before (Err (TooManyBytes name limit)) now = Runs words before (Some (TooManyBytes name limit)) now
+Ends words before (Err (NotUtf8 file line)) now = Runs words before (Some (NotUtf8 file line)) now
+Ends words before (Err (LineTooLong file line)) now = Runs words before (Some (LineTooLong file line)) now
+Ends words before (Err (Syntax file line kind)) now = Runs words before (Some (Syntax file line kind)) now
+Ends words before (Err (NoId file line)) now = Runs words before (Some (NoId file line)) now
+Ends words before (Err (ShortGroup file line)) now = Runs words before (Some (ShortGroup file line)) now
 Ends words before (Err (LineNotBuilt file line)) now = Runs words before (Some (LineNotBuilt file line)) now
 Ends words before (Err (ReadFault name)) now = IsOk (chain words) × ReadFaultCaused words before name now
 Ends words before (Err (WriteFault name)) now = IsOk (chain words) × WriteFaultCaused words before name now

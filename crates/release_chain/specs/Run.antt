@@ -3,6 +3,10 @@ use Rattle.std.specs.Prelude.{ℕ, if◌then◌else◌, List, [], ◌∷◌, Opt
 use Rattle.std.specs.FinMap.{get, insert}
 use Rattle.std.specs.Option.{option_map}
 use Rattle.rel_io.specs.FolderState.{Files}
+use Rattle.obo_frames.specs.Answer.{document_of}
+use Rattle.obo_frames.specs.declared.fault.DocFault.{DocFault}
+use Rattle.obo_frames.specs.declared.fault.DocFault.TheVariants as doc
+use Rattle.obo_frames.specs.declared.placed.Placed.{Placed}
 use Rattle.owl_axioms.specs.Ontology.{OntologyState}
 use Rattle.release_chain.specs.Built.{unbuilt_line}
 use Rattle.release_chain.specs.Lines.{Line, lines_of}
@@ -10,7 +14,7 @@ use Rattle.release_chain.specs.Mapping.{ontology_of}
 use Rattle.release_chain.specs.Text.{obo_text}
 use Rattle.release_chain.specs.Words.{Word, chain}
 use Rattle.release_chain.specs.declared.fault.Fault.{Fault}
-use Rattle.release_chain.specs.declared.fault.Fault.TheVariants.{BadWord, MissingInput, TooManyBytes, LineNotBuilt}
+use Rattle.release_chain.specs.declared.fault.Fault.TheVariants.{BadWord, MissingInput, TooManyBytes, NotUtf8, LineTooLong, Syntax, NoId, ShortGroup, LineNotBuilt, NoMemory}
 use Rattle.release_chain.specs.declared.words.Paths.{Paths}
 use Rattle.release_chain.specs.declared.words.WrongWord.{WrongWord}
 
@@ -39,6 +43,19 @@ pub record Run : Type 0 where
 abbrev pub byte_limit : ℕ
 byte_limit = 268435456
 
+-- the most bytes that a line has
+abbrev pub line_limit : ℕ
+line_limit = 1048576
+
+-- what is wrong with a document, as the fault of the file that it is in. Want of memory is wrong with no document
+abbrev pub fault_in : List ℕ → DocFault → Fault
+fault_in file (doc.NotUtf8 line) = NotUtf8 file line
+fault_in file (doc.LineTooLong line) = LineTooLong file line
+fault_in file (doc.Syntax line kind) = Syntax file line kind
+fault_in file (doc.NoId line) = NoId file line
+fault_in file (doc.ShortGroup line) = ShortGroup file line
+fault_in file doc.NoMemory = NoMemory
+
 -- a run that opens the input and refuses
 abbrev pub refuses : Paths → Fault → Run
 refuses paths fault = record { openings = record { name = paths.input; behind = [] } ∷ []; merged = None; outputs = []; refusal = Some fault }
@@ -57,13 +74,20 @@ abbrev pub run_lines : Paths → List Line → Option ℕ → Run
 run_lines paths lines (Some line) = refuses paths (LineNotBuilt paths.input line)
 run_lines paths lines None = writes paths (ontology_of lines)
 
+-- the run of a file with these lines, by its document or the first fault of it
+abbrev pub run_document : Paths → List Line → Result (List Placed) DocFault → Run
+run_document paths lines (Ok placed) = run_lines paths lines (unbuilt_line lines)
+run_document paths lines (Err one) = refuses paths (fault_in paths.input one)
+
+-- the run of a file's bytes
+abbrev pub run_bytes : Paths → List ℕ → Run
+run_bytes paths bytes = run_document paths (lines_of bytes) (document_of line_limit bytes)
+
 -- the run of the input: it is held, and has no more bytes than the limit, or it is refused
 abbrev pub run_input : Paths → Option (List ℕ) → Run
 run_input paths None = refuses paths (MissingInput paths.input)
 run_input paths (Some bytes) =
-    if nat_le (length bytes) byte_limit
-    then run_lines paths (lines_of bytes) (unbuilt_line (lines_of bytes))
-    else refuses paths (TooManyBytes paths.input byte_limit)
+    if nat_le (length bytes) byte_limit then run_bytes paths bytes else refuses paths (TooManyBytes paths.input byte_limit)
 
 -- the run of a chain, where the held files are told; wrong words are refused by themselves
 abbrev pub run_chain : Result Paths WrongWord → Option Files → Option Run

@@ -3,16 +3,21 @@ ghost use Rattle.std.specs.Prelude.{◌≡◌, map};
 ghost use Rattle.std.specs.String.{string_bytes};
 ghost use Rattle.rel_io.specs.FolderState.{NoCountFell};
 ghost use Rattle.release_chain.specs.Ending.{Ends, EndsChain, fault_of_input};
+ghost use Rattle.release_chain.specs.Run.{fault_in};
 
 use crate::reader::{LineFault, read_ontology};
 use crate::text::obo_text;
 use crate::words::{Paths, read_words};
 use crate::{Fault, FileFault, read_file};
+use obo_frames::{DocFault, read_document};
 use rel_io::{Bytes, Dup, Folder, PutFault};
 use std::alloc::Global;
 
 /// The most bytes that the files of a chain have together.
 const BYTE_LIMIT: u64 = 268435456;
+
+/// The most bytes that a line has.
+const LINE_LIMIT: u32 = 1048576;
 
 /// Runs the chain of these words in a folder.
 pub fn run_words<F: Folder>(alloc: Global, words: &[String], folder: &mut F) -> Result<(), Fault>
@@ -31,6 +36,10 @@ fn run_chain<F: Folder>(alloc: Global, paths: &Paths, folder: &mut F) -> Result<
         Ok(bytes) => bytes,
         Err(fault) => return Err(input_fault(fault, name)),
     };
+    match read_document(alloc, bytes.as_slice(), LINE_LIMIT) {
+        Ok(document) => drop(document),
+        Err(fault) => return Err(document_fault(fault, name)),
+    }
     let ontology = match read_ontology(alloc, bytes.as_slice()) {
         Ok(ontology) => ontology,
         Err(LineFault::NotBuilt(line)) => return Err(Fault::LineNotBuilt { file: name, line }),
@@ -58,5 +67,19 @@ fn input_fault(fault: FileFault, name: Bytes) -> Fault
             limit: BYTE_LIMIT,
         },
         FileFault::NoMemory => Fault::NoMemory,
+    }
+}
+
+/// The fault of a chain whose input is no document.
+fn document_fault(fault: DocFault, file: Bytes) -> Fault
+    ensures { result ≡ fault_in file fault }
+{
+    match fault {
+        DocFault::NotUtf8 { line } => Fault::NotUtf8 { file, line },
+        DocFault::LineTooLong { line } => Fault::LineTooLong { file, line },
+        DocFault::Syntax { line, kind } => Fault::Syntax { file, line, kind },
+        DocFault::NoId { line } => Fault::NoId { file, line },
+        DocFault::ShortGroup { line } => Fault::ShortGroup { file, line },
+        DocFault::NoMemory => Fault::NoMemory,
     }
 }

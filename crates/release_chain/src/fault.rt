@@ -4,6 +4,7 @@ ghost use Rattle.release_chain.specs.Fault.{status_of, status_of_ending};
 ghost use Rattle.release_chain.specs.declared.fault.Fault.TheVariants.{BadWord, NoMemory};
 
 use crate::words::WrongWord;
+use obo_clause::SyntaxKind;
 use rel_io::{Bytes, Dup};
 use std::alloc::{AllocError, Global};
 
@@ -26,17 +27,58 @@ pub enum WordKind {
 #[derive(Debug, PartialEq, Eq, Drop)]
 pub enum Fault {
     /// The first word that departs from the form of a chain: its index, from 0 behind the program's name.
-    BadWord { index: u32, kind: WordKind },
+    BadWord {
+        index: u32,
+        kind: WordKind,
+    },
     /// The input is not there.
-    MissingInput { name: Bytes },
+    MissingInput {
+        name: Bytes,
+    },
     /// The input has more bytes than the limit.
-    TooManyBytes { name: Bytes, limit: u64 },
+    TooManyBytes {
+        name: Bytes,
+        limit: u64,
+    },
+    /// The line of the file, from 1, is not UTF-8.
+    NotUtf8 {
+        file: Bytes,
+        line: u32,
+    },
+    /// The line of the file has more bytes than a line may have.
+    LineTooLong {
+        file: Bytes,
+        line: u32,
+    },
+    /// The line of the file is none of OBO, and why.
+    Syntax {
+        file: Bytes,
+        line: u32,
+        kind: SyntaxKind,
+    },
+    /// The frame that begins at the line of the file has no `id` clause as its first clause.
+    NoId {
+        file: Bytes,
+        line: u32,
+    },
+    /// The group of a Term whose first clause stands at the line of the file has clauses for one expression alone.
+    ShortGroup {
+        file: Bytes,
+        line: u32,
+    },
     /// The least line of a file, from 1, whose form is not built yet.
-    LineNotBuilt { file: Bytes, line: u32 },
+    LineNotBuilt {
+        file: Bytes,
+        line: u32,
+    },
     /// The file could not be opened or read.
-    ReadFault { name: Bytes },
+    ReadFault {
+        name: Bytes,
+    },
     /// The file could not be written; nothing is known of it.
-    WriteFault { name: Bytes },
+    WriteFault {
+        name: Bytes,
+    },
     /// Memory ran out.
     NoMemory,
 }
@@ -98,6 +140,27 @@ impl Dup for Fault {
                 name: name.copy(alloc)?,
                 limit: *limit,
             }),
+            Fault::NotUtf8 { file, line } => Ok(Fault::NotUtf8 {
+                file: file.copy(alloc)?,
+                line: *line,
+            }),
+            Fault::LineTooLong { file, line } => Ok(Fault::LineTooLong {
+                file: file.copy(alloc)?,
+                line: *line,
+            }),
+            Fault::Syntax { file, line, kind } => Ok(Fault::Syntax {
+                file: file.copy(alloc)?,
+                line: *line,
+                kind: *kind,
+            }),
+            Fault::NoId { file, line } => Ok(Fault::NoId {
+                file: file.copy(alloc)?,
+                line: *line,
+            }),
+            Fault::ShortGroup { file, line } => Ok(Fault::ShortGroup {
+                file: file.copy(alloc)?,
+                line: *line,
+            }),
             Fault::LineNotBuilt { file, line } => Ok(Fault::LineNotBuilt {
                 file: file.copy(alloc)?,
                 line: *line,
@@ -143,7 +206,14 @@ fn status(fault: &Fault) -> u8
 {
     match fault {
         Fault::BadWord { .. } => 2,
-        Fault::MissingInput { .. } | Fault::TooManyBytes { .. } | Fault::LineNotBuilt { .. } => 1,
+        Fault::MissingInput { .. }
+        | Fault::TooManyBytes { .. }
+        | Fault::NotUtf8 { .. }
+        | Fault::LineTooLong { .. }
+        | Fault::Syntax { .. }
+        | Fault::NoId { .. }
+        | Fault::ShortGroup { .. }
+        | Fault::LineNotBuilt { .. } => 1,
         Fault::ReadFault { .. } | Fault::WriteFault { .. } => 3,
         Fault::NoMemory => 4,
     }

@@ -1,5 +1,7 @@
 //! Whole runs over a folder and sinks in memory.
 use crate::{Ended, Fault, FileFault, WordKind, read_file, release};
+use obo_clause::SyntaxKind;
+use obo_frames::DocFault;
 use rel_io::{Bytes, MemFolder, MemSink, NoMemory};
 use std::alloc::Global;
 use std::test::Fail;
@@ -20,9 +22,12 @@ fn words(alloc: Global, texts: &[&str]) -> Result<Vec<String>, NoMemory> {
 }
 
 /// A folder that holds `a.obo` with this text, gives pieces of three bytes, and fails at these calls.
-fn folder_of(alloc: Global, text: &str, failing: &[u64]) -> Result<MemFolder, NoMemory> {
+fn folder_of(alloc: Global, text: &[u8], failing: &[u64]) -> Result<MemFolder, NoMemory> {
     let mut files = Vec::new(alloc);
-    files.push((bytes(alloc, "a.obo")?, bytes(alloc, text)?))?;
+    files.push((
+        bytes(alloc, "a.obo")?,
+        Bytes::from_vec(Vec::from_slice(alloc, text)?),
+    ))?;
     let failing = Vec::from_slice(alloc, failing)?;
     Ok(MemFolder::new(alloc, files, 3, failing))
 }
@@ -75,7 +80,7 @@ fn the_canonical_text_is_written(rt: HostRuntime) -> Result<(), Fail> {
         ),
     ];
     for (text, want) in cases {
-        let mut folder = folder_of(alloc, text, &[])?;
+        let mut folder = folder_of(alloc, text.as_bytes(), &[])?;
         let ended = run(alloc, &CHAIN, &mut folder)?;
         assert_eq!(rt; ended.fault, None);
         assert_eq!(rt; ended.status, 0);
@@ -93,21 +98,16 @@ fn the_least_line_that_is_not_built_is_refused(rt: HostRuntime) -> Result<(), Fa
         ("ontology: ex\n\nontology: ex\n", 3),
         ("ontology: ex\r\n", 1),
         ("\n\n ", 3),
-        ("ontology: ", 1),
-        ("ontology: a b\nname: x\n", 1),
         ("format-version: 1.2\nformat-version:1.2\n", 2),
         ("format-version: \t\n", 1),
         ("\u{feff}ontology: ex\n", 1),
         ("\nformat-version: \0", 2),
         // A frame line without a new id directly behind it.
-        ("[Term]", 1),
         ("[Term]\n\nid: EX:1\n", 1),
-        ("[Term]\nname: x\nid: EX:1\n", 1),
         (
             "[Term]\nid: EX:1\n[Term]\nid: EX:2\n\n[Term]\nid: EX:1\n",
             6,
         ),
-        ("[Term]\n[Term]\nid: EX:1\n", 1),
         ("[Term] \nid: EX:1\n", 1),
         ("[Typedef]\nid: EX:1\n", 1),
         // An id that is not canonical, and one that does not stand behind a frame line.
@@ -140,12 +140,101 @@ fn the_least_line_that_is_not_built_is_refused(rt: HostRuntime) -> Result<(), Fa
         ("[Term]\nid: EX:1\nformat-version: 1.2\n", 3),
     ];
     for (text, line) in cases {
-        let mut folder = folder_of(alloc, text, &[])?;
+        let mut folder = folder_of(alloc, text.as_bytes(), &[])?;
         let ended = run(alloc, &CHAIN, &mut folder)?;
         let file = bytes(alloc, "a.obo")?;
         assert_eq!(rt; ended.fault, Some(Fault::LineNotBuilt { file, line }));
         assert_eq!(rt; ended.status, 1);
         assert_eq!(rt; folder.held(b"b.obo"), None);
+    }
+    Ok(())
+}
+
+/// The fault of a file at a line of it.
+fn fault_at(alloc: Global, fault: DocFault) -> Result<Fault, NoMemory> {
+    let file = bytes(alloc, "a.obo")?;
+    Ok(match fault {
+        DocFault::NotUtf8 { line } => Fault::NotUtf8 { file, line },
+        DocFault::LineTooLong { line } => Fault::LineTooLong { file, line },
+        DocFault::Syntax { line, kind } => Fault::Syntax { file, line, kind },
+        DocFault::NoId { line } => Fault::NoId { file, line },
+        DocFault::ShortGroup { line } => Fault::ShortGroup { file, line },
+        DocFault::NoMemory => Fault::NoMemory,
+    })
+}
+
+/// A syntax fault at a line.
+fn syntax(line: u32, kind: SyntaxKind) -> DocFault {
+    DocFault::Syntax { line, kind }
+}
+
+#[test]
+fn the_first_fault_of_a_file_is_refused(rt: HostRuntime) -> Result<(), Fail> {
+    let alloc = rt.alloc();
+    let cases: [(&[u8], DocFault); 13] = [
+        // A tag without a colon on line 7; the same behind an earlier one; and a tag that is none.
+        (
+            b"ontology: ex\n\n[Term]\nid: EX:1\nname: x\n\nis_a part\n",
+            syntax(7, SyntaxKind::NoColon),
+        ),
+        (
+            b"ontology: ex\n\n[Term]\nname\nid: EX:1\n\nis_a part\n",
+            syntax(4, SyntaxKind::NoColon),
+        ),
+        (
+            b"ontology: ex\n\n[Term]\nid: EX:1\nname: x\n\nis_a EX:0000001\n",
+            syntax(7, SyntaxKind::BadTag),
+        ),
+        (b"\n\n\xFF\n", DocFault::NotUtf8 { line: 3 }),
+        (b"is_a x\n\xFF\n", syntax(1, SyntaxKind::NoColon)),
+        (b"ontology: ", syntax(1, SyntaxKind::NoValue)),
+        (b"ontology: a b\nname: x\n", syntax(1, SyntaxKind::Trailing)),
+        (b"[Term]", DocFault::NoId { line: 1 }),
+        (b"\n[Term]\nname: x\nid: EX:1\n", DocFault::NoId { line: 2 }),
+        (b"[Term]\n[Term]\nid: EX:1\n", DocFault::NoId { line: 1 }),
+        (
+            b"[Term]\nid: EX:1\nintersection_of: EX:2\n",
+            DocFault::ShortGroup { line: 3 },
+        ),
+        // A fault comes before a line that is not built, wherever the two stand; a faulty line before a faulty frame.
+        (
+            b"[Term]\nid: EX:1\ndef: \"x\"\nis_obsolete: yes\n",
+            syntax(4, SyntaxKind::BadBool),
+        ),
+        (
+            b"[Term]\nname: x\n[Typdef]\n",
+            syntax(3, SyntaxKind::BadFrame),
+        ),
+    ];
+    for (text, fault) in cases {
+        let mut folder = folder_of(alloc, text, &[])?;
+        let ended = run(alloc, &CHAIN, &mut folder)?;
+        assert_eq!(rt; ended.fault, Some(fault_at(alloc, fault)?));
+        assert_eq!(rt; ended.status, 1);
+        assert_eq!(rt; folder.held(b"b.obo"), None);
+    }
+    Ok(())
+}
+
+#[test]
+fn a_line_has_at_most_1048576_bytes(rt: HostRuntime) -> Result<(), Fail> {
+    let alloc = rt.alloc();
+    for (len, fault) in [
+        (1_048_576, None),
+        (1_048_577, Some(DocFault::LineTooLong { line: 2 })),
+    ] {
+        let mut text = Vec::from_slice(alloc, b"\n")?;
+        text.extend_from_slice(b"format-version: ")?;
+        text.resize(1 + len, b'x')?;
+        let mut files = Vec::new(alloc);
+        files.push((bytes(alloc, "a.obo")?, Bytes::from_vec(text)))?;
+        let mut folder = MemFolder::new(alloc, files, 65536, Vec::new(alloc));
+        let ended = run(alloc, &CHAIN, &mut folder)?;
+        let want = match fault {
+            Some(fault) => Some(fault_at(alloc, fault)?),
+            None => None,
+        };
+        assert_eq!(rt; ended.fault, want);
     }
     Ok(())
 }
@@ -200,7 +289,7 @@ fn the_first_bad_word_is_refused(rt: HostRuntime) -> Result<(), Fail> {
         ),
     ];
     for (texts, index, kind) in cases {
-        let mut folder = folder_of(alloc, "", &[])?;
+        let mut folder = folder_of(alloc, b"", &[])?;
         let ended = run(alloc, texts, &mut folder)?;
         assert_eq!(rt; ended.fault, Some(Fault::BadWord { index, kind }));
         assert_eq!(rt; ended.status, 2);
@@ -213,14 +302,14 @@ fn what_failed_outside_is_named(rt: HostRuntime) -> Result<(), Fail> {
     let alloc = rt.alloc();
     // Of twelve bytes in pieces of three: the open is call 0, the reads are 1 to 5, and the put is 6.
     for failing in [0, 1, 3, 5] {
-        let mut folder = folder_of(alloc, "ontology: ex", &[failing])?;
+        let mut folder = folder_of(alloc, b"ontology: ex", &[failing])?;
         let ended = run(alloc, &CHAIN, &mut folder)?;
         let name = bytes(alloc, "a.obo")?;
         assert_eq!(rt; ended.fault, Some(Fault::ReadFault { name }));
         assert_eq!(rt; ended.status, 3);
         assert_eq!(rt; folder.held(b"b.obo"), None);
     }
-    let mut folder = folder_of(alloc, "ontology: ex", &[6])?;
+    let mut folder = folder_of(alloc, b"ontology: ex", &[6])?;
     let ended = run(alloc, &CHAIN, &mut folder)?;
     let name = bytes(alloc, "b.obo")?;
     assert_eq!(rt; ended.fault, Some(Fault::WriteFault { name }));
@@ -235,7 +324,7 @@ fn what_failed_outside_is_named(rt: HostRuntime) -> Result<(), Fail> {
 #[test]
 fn an_input_that_is_not_held_is_missing(rt: HostRuntime) -> Result<(), Fail> {
     let alloc = rt.alloc();
-    let mut folder = folder_of(alloc, "", &[])?;
+    let mut folder = folder_of(alloc, b"", &[])?;
     let texts = ["merge", "--input", "A.obo", "convert", "--output", "b.obo"];
     let ended = run(alloc, &texts, &mut folder)?;
     let name = bytes(alloc, "A.obo")?;
@@ -249,12 +338,12 @@ fn an_input_that_is_not_held_is_missing(rt: HostRuntime) -> Result<(), Fail> {
 fn a_file_is_read_up_to_its_limit(rt: HostRuntime) -> Result<(), Fail> {
     let alloc = rt.alloc();
     let name = bytes(alloc, "a.obo")?;
-    let mut folder = folder_of(alloc, "123456", &[])?;
+    let mut folder = folder_of(alloc, b"123456", &[])?;
     assert_eq!(rt;
         read_file(alloc, &mut folder, &name, 5),
         Err(FileFault::TooManyBytes)
     );
-    let mut folder = folder_of(alloc, "12345", &[])?;
+    let mut folder = folder_of(alloc, b"12345", &[])?;
     let whole = bytes(alloc, "12345")?;
     assert_eq!(rt; read_file(alloc, &mut folder, &name, 5), Ok(whole));
     Ok(())
@@ -265,7 +354,7 @@ fn reading_stops_behind_the_limit(rt: HostRuntime) -> Result<(), Fail> {
     let alloc = rt.alloc();
     // The open is call 0; the second piece of three bytes goes past the limit, so no call 3 is made.
     let name = bytes(alloc, "a.obo")?;
-    let mut folder = folder_of(alloc, "1234567", &[3])?;
+    let mut folder = folder_of(alloc, b"1234567", &[3])?;
     let read = read_file(alloc, &mut folder, &name, 5);
     assert_eq!(rt; read, Err(FileFault::TooManyBytes));
     Ok(())
