@@ -40,7 +40,7 @@ T- name: a {,x=1} => name Text <a {,x=1}>
 T- name: a { x = 1 , y = "2" } => name Text <a> {<x>=<1><y>=<2>}
 T- name: a {~x~=~1~,~y~=~"2"~}~! => name Text <a> {<x>=<1><y>=<2>}
 T- name: a {x=1 2} => name Text <a> {<x>=<1 2>}
-T- name: a {x=\W1\W} => name Text <a> {<x>=< 1 >}
+T- name: a {x=\Wb\W} => name Text <a> {<x>=< b >}
 T- name: a {x=a\}b} => name Text <a> {<x>=<a}b>}
 T- name: a {x=a\,b} => name Text <a> {<x>=<a,b>}
 T- name: a {x=a=b!c[d]:e} => name Text <a> {<x>=<a=b!c[d]:e>}
