@@ -103,6 +103,7 @@ module _ {B : Type 0} (go_on : Listed → Answer B) (after : Wrong) where
       form _ (ListForm.without stops) fails = MayHaveList.without (behind_blanks marks) one (blanks-at marks) stops fails
       form _ (ListForm.list blanks inside rest xrefs whole blank are) fails =
           MayHaveList.later (list_open ∷ (inside ++ list_close ∷ [])) rest xrefs one (record { blanks = blanks; whole = whole ∙ simp append_assoc; blank = blank; stops = refl }) (record { inside = inside; whole = refl; slots = are }) fails
+
       go : WentWrong (list_at marks) go_on one → MayHaveList after marks one
       go (WentWrong.at_once e) = list-fails after marks one e
       go (WentWrong.later listed e is) = form listed (list-found marks listed e) (later listed one is)

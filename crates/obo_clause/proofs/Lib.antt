@@ -1,7 +1,10 @@
+pub mod AnswerLemmas
+pub mod ContentLemmas
 pub mod EndingLemmas
 pub mod FaultLemmas
 pub mod FieldLemmas
 pub mod FreeLemmas
+pub mod LineLemmas
 pub mod ListLemmas
 pub mod LoopLemmas
 pub mod RunLemmas
@@ -10,7 +13,9 @@ pub mod ScanLemmas
 pub mod ShapeLemmas
 pub mod SignLemmas
 pub mod SlotLemmas
+pub mod TagLemmas
 pub mod TailLemmas
 pub mod ValuesFound
 pub mod ValuesRead
 pub mod WordLemmas
+pub mod XrefFaults

@@ -127,6 +127,7 @@ goes-on at_quote mark run rest None e free quoted =
         not-true' : (b : Bool) → not b ≡ true → b ≡ false
         not-true' true h = cc
         not-true' false h = refl
+
     no-quote : (at_quote : Bool) → (at_quote ≡ true → is_quoted_mark mark ≡ true) → (at_quote && is_some (behind_sign 34 (mark ∷ (run ++ rest)))) ≡ false
     no-quote false quoted = refl
     no-quote true quoted = ap (λ b. is_some (cond {A = Option (List Mark)} b (Some (run ++ rest)) None)) (unquoted (quoted refl))

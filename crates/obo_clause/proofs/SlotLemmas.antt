@@ -263,6 +263,7 @@ entry-stop (mark ∷ rest) stops quote comma close =
     excluded false true c h x y z = cc
     excluded false false true h x y z = cc
     excluded false false false h x y z = cc
+
     go : (escaped : Bool) (byte : ℕ) → is_entry_mark (record { byte = byte; is_escaped = escaped }) ≡ false → is_sign 34 (record { byte = byte; is_escaped = escaped }) ≡ false → is_sign 44 (record { byte = byte; is_escaped = escaped }) ≡ false → is_sign 93 (record { byte = byte; is_escaped = escaped }) ≡ false → ⊥
     go true byte h x y z = cc
     go false byte h x y z = excluded (byte == 34) (byte == 44) (byte == 93) h x y z
@@ -276,6 +277,7 @@ slot_end-stops (mark ∷ rest) comma close =
     both true b x y = cc
     both false true x y = cc
     both false false x y = refl
+
     go : (escaped : Bool) (byte : ℕ) → is_sign 44 (record { byte = byte; is_escaped = escaped }) ≡ false → is_sign 93 (record { byte = byte; is_escaped = escaped }) ≡ false → is_slot_end (record { byte = byte; is_escaped = escaped }) ≡ false
     go true byte x y = refl
     go false byte x y = both (byte == 44) (byte == 93) x y
@@ -289,6 +291,7 @@ slot_end-comma mark h = go mark.is_escaped mark.byte h
     first : (a b : Bool) → (a || (b || false)) ≡ false → a ≡ false
     first true b h = cc
     first false b h = refl
+
     go : (escaped : Bool) (byte : ℕ) → is_slot_end (record { byte = byte; is_escaped = escaped }) ≡ false → is_sign 44 (record { byte = byte; is_escaped = escaped }) ≡ false
     go true byte h = refl
     go false byte h = first (byte == 44) (byte == 93) h
@@ -300,6 +303,7 @@ slot_end-close mark h = go mark.is_escaped mark.byte h
     second true b h = cc
     second false true h = cc
     second false false h = refl
+
     go : (escaped : Bool) (byte : ℕ) → is_slot_end (record { byte = byte; is_escaped = escaped }) ≡ false → is_sign 93 (record { byte = byte; is_escaped = escaped }) ≡ false
     go true byte h = refl
     go false byte h = second (byte == 44) (byte == 93) h

@@ -150,7 +150,7 @@ type-step marks run rest one (Some type) e has is =
       part = has.blanks ++ run ++ (second.blanks ++ type.0);
       whole = has.whole ∙ (ap (λ l. has.blanks ++ (run ++ l)) second.whole ∙ simp append_assoc);
       is = IsScoped.scoped has.blanks run (second.blanks ++ type.0) one (Some (read_as type.0)) has.blank (record { some = has.some; each = has.each; read = is })
-        (IsSecondWord.word second.blanks type.0 (read_as type.0) (spaced marks run rest type.0 type.1 has second) second.blank (run-word rest type.0 type.1 second));
+          (IsSecondWord.word second.blanks type.0 (read_as type.0) (spaced marks run rest type.0 type.1 has second) second.blank (run-word rest type.0 type.1 second));
     }
 
 scope-read : (marks : List Mark) (word : Two) (o : Option Scope) → scope_of (read_as word.0) ≡ o → HasRun marks word.0 word.1 → ScopedRead marks (found {B = Scoped} o (scope.Related, Some (read_as word.0), word.1) (λ (one : Scope). type_behind one word.1))
@@ -336,6 +336,7 @@ some-left run (x ∷ blanks) [] whole stops blank some =
   where
     first : AreBlanks (x ∷ blanks) → is_space x ≡ true
     first all = pass-head is_space x blanks all
+
     both : is_space x ≡ false → is_space x ≡ true → ⊥
     both a b = let e : false ≡ true = sym a ∙ b in cc
 

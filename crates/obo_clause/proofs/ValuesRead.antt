@@ -206,6 +206,7 @@ module _ (between ending : List Mark) (qualifiers : List Qualifier) (blank : Are
         later-stops _ _ IsSecondWord.nothing = more-list-stops more xrefs are
         later-stops _ _ (IsSecondWord.word blanks marks word some spaces is) =
             subst (Stops is_word_mark) (sym (append_assoc blanks marks (more ++ tail))) (blanks-stop blanks (marks ++ (more ++ tail)) some spaces)
+
         type-is : (later : List Mark) (type : Option (List ℕ)) → IsSecondWord later type → type_behind one (later ++ (more ++ tail)) ≡ (one, type, more ++ tail)
         type-is _ _ IsSecondWord.nothing =
             ap (λ o. found {B = Scoped} o (one, None, more ++ tail) (λ (type : Two). (one, Some (read_as type.0), type.1))) (more-list-no_word more xrefs are)

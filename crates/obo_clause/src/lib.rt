@@ -6,6 +6,7 @@
 mod blocks;
 mod bytes;
 mod clause;
+mod laws;
 mod line;
 mod lists;
 mod marks;
@@ -17,5 +18,8 @@ mod tests;
 mod values;
 
 pub use clause::{Clause, Qualifier, Scope, Value, Xref};
+pub use laws::{
+    line_fails_one_way, line_has_answer, line_never_says_and_fails, line_says_one_thing,
+};
 pub use line::{Line, LineFault, SyntaxKind};
 pub use reader::read_line;
