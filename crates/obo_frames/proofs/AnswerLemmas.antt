@@ -19,21 +19,8 @@ use Rattle.obo_frames.specs.declared.fault.DocFault.{DocFault}
 use Rattle.obo_frames.specs.declared.placed.Placed.{Placed}
 use Rattle.obo_frames.specs.declared.told.Place.{Place}
 use Rattle.obo_frames.specs.declared.told.Told.{Told}
-use Rattle.obo_clause.proofs.AnswerLemmas.{answer-is-fault, answer-is-said, fails-one-way, has-answer, never-both, says-one-thing}
-use Rattle.obo_frames.proofs.OneLemmas.{LineLaws, has_one_fault, is_never_both, is_one_document}
-
--- what a line is told to say it says, and what is told to be wrong with it is wrong
-pub record LineAnswers : Type 0 where
-  pub says : (kind : FrameKind) (first : Bool) (line : List ℕ) (said : Line) → answer_to kind first line ≡ Ok said → Says kind first line said
-  pub fails : (kind : FrameKind) (first : Bool) (line : List ℕ) (one : SyntaxKind) → answer_to kind first line ≡ Err one → Fails kind first line one
-
--- both are so
-line_answers : LineAnswers
-line_answers = record { says = answer-is-said; fails = answer-is-fault }
-
--- the laws of lines
-line_laws : LineLaws
-line_laws = record { says_one = says-one-thing; fails_one = fails-one-way; not_both = never-both; answers = has-answer }
+use Rattle.obo_clause.proofs.AnswerLemmas.{answer-is-fault, answer-is-said}
+use Rattle.obo_frames.proofs.OneLemmas.{has_one_fault, is_never_both, is_one_document}
 
 -- ---- one line
 
@@ -41,14 +28,14 @@ abbrev IsBodyAnswer : Place → ℕ → LineBody → Result Told DocFault → Ty
 IsBodyAnswer at number text (Ok told) = (told.line ≡ number) × BodySays at text told.said
 IsBodyAnswer at number text (Err one) = BodyFails at number text one
 
-text_is_answered : LineAnswers → (at : Place) (number : ℕ) (text : List ℕ) (answer : Result Line SyntaxKind) → answer_to at.kind at.is_first text ≡ answer → IsBodyAnswer at number (body.Text text) (numbered_answer number answer)
-text_is_answered lines at number text (Ok said) e = (refl, lines.says at.kind at.is_first text said e)
-text_is_answered lines at number text (Err one) e = syntax text one (lines.fails at.kind at.is_first text one e)
+text_is_answered : (at : Place) (number : ℕ) (text : List ℕ) (answer : Result Line SyntaxKind) → answer_to at.kind at.is_first text ≡ answer → IsBodyAnswer at number (body.Text text) (numbered_answer number answer)
+text_is_answered at number text (Ok said) e = (refl, answer-is-said at.kind at.is_first text said e)
+text_is_answered at number text (Err one) e = syntax text one (answer-is-fault at.kind at.is_first text one e)
 
-body_is_answered : LineAnswers → (at : Place) (number : ℕ) (text : LineBody) → IsBodyAnswer at number text (body_answer at number text)
-body_is_answered lines at number (body.Text text) = text_is_answered lines at number text (answer_to at.kind at.is_first text) refl
-body_is_answered lines at number body.NotUtf8 = not_utf8
-body_is_answered lines at number body.TooLong = too_long
+body_is_answered : (at : Place) (number : ℕ) (text : LineBody) → IsBodyAnswer at number text (body_answer at number text)
+body_is_answered at number (body.Text text) = text_is_answered at number text (answer_to at.kind at.is_first text) refl
+body_is_answered at number body.NotUtf8 = not_utf8
+body_is_answered at number body.TooLong = too_long
 
 -- ---- all lines
 
@@ -66,10 +53,10 @@ all_are_answered at item items (Ok told) is rest =
     more_are_answered at item items told (lines_answer (behind at told.said) items) (record { line = is.0; says = is.1 }) (rest told)
 all_are_answered at item items (Err one) is rest = inl is
 
-lines_are_answered : LineAnswers → (at : Place) (items : List LineItem) → AreAnswered at items (lines_answer at items)
-lines_are_answered lines at [] = tt
-lines_are_answered lines at (item ∷ items) =
-    all_are_answered at item items (body_answer at item.number item.body) (body_is_answered lines at item.number item.body) (λ told. lines_are_answered lines (behind at told.said) items)
+lines_are_answered : (at : Place) (items : List LineItem) → AreAnswered at items (lines_answer at items)
+lines_are_answered at [] = tt
+lines_are_answered at (item ∷ items) =
+    all_are_answered at item items (body_answer at item.number item.body) (body_is_answered at item.number item.body) (λ told. lines_are_answered (behind at told.said) items)
 
 -- ---- files
 
@@ -90,27 +77,27 @@ told_are_answered : (limit : ℕ) (bytes : List ℕ) (answer : Result (List Told
 told_are_answered limit bytes (Ok tolds) tells = frames_are_answered limit bytes tolds (first_fault tolds) tells refl
 told_are_answered limit bytes (Err one) fails = of_line fails
 
-file_is_answered : LineAnswers → (limit : ℕ) (bytes : List ℕ) → IsFileAnswer limit bytes (document_of limit bytes)
+file_is_answered : (limit : ℕ) (bytes : List ℕ) → IsFileAnswer limit bytes (document_of limit bytes)
 unfolding document_of
-file_is_answered lines limit bytes =
-    told_are_answered limit bytes (lines_answer start (lines_of limit bytes)) (lines_are_answered lines start (lines_of limit bytes))
+file_is_answered limit bytes =
+    told_are_answered limit bytes (lines_answer start (lines_of limit bytes)) (lines_are_answered start (lines_of limit bytes))
 
 -- ---- and back
 
-document_is_answered : LineLaws → (limit : ℕ) (bytes : List ℕ) (answer : Result (List Placed) DocFault) → IsFileAnswer limit bytes answer → (placed : List Placed) → IsDocument limit bytes placed → answer ≡ Ok placed
-document_is_answered laws limit bytes (Ok other) is placed wanted = ap Ok (is_one_document laws limit bytes other placed is wanted)
-document_is_answered laws limit bytes (Err one) is placed wanted = absurd (is_never_both laws limit bytes placed one wanted is)
+document_is_answered : (limit : ℕ) (bytes : List ℕ) (answer : Result (List Placed) DocFault) → IsFileAnswer limit bytes answer → (placed : List Placed) → IsDocument limit bytes placed → answer ≡ Ok placed
+document_is_answered limit bytes (Ok other) is placed wanted = ap Ok (is_one_document limit bytes other placed is wanted)
+document_is_answered limit bytes (Err one) is placed wanted = absurd (is_never_both limit bytes placed one wanted is)
 
-fault_is_answered : LineLaws → (limit : ℕ) (bytes : List ℕ) (answer : Result (List Placed) DocFault) → IsFileAnswer limit bytes answer → (one : DocFault) → IsFirstFault limit bytes one → answer ≡ Err one
-fault_is_answered laws limit bytes (Ok placed) is one wanted = absurd (is_never_both laws limit bytes placed one is wanted)
-fault_is_answered laws limit bytes (Err other) is one wanted = ap Err (has_one_fault laws limit bytes other one is wanted)
+fault_is_answered : (limit : ℕ) (bytes : List ℕ) (answer : Result (List Placed) DocFault) → IsFileAnswer limit bytes answer → (one : DocFault) → IsFirstFault limit bytes one → answer ≡ Err one
+fault_is_answered limit bytes (Ok placed) is one wanted = absurd (is_never_both limit bytes placed one is wanted)
+fault_is_answered limit bytes (Err other) is one wanted = ap Err (has_one_fault limit bytes other one is wanted)
 
 pub is_exact : (limit : ℕ) (bytes : List ℕ) → IsExact limit bytes
 is_exact limit bytes =
-    let answered = file_is_answered line_answers limit bytes in
+    let answered = file_is_answered limit bytes in
     record {
-      document = λ placed. (λ e. subst (IsFileAnswer limit bytes) e answered, document_is_answered line_laws limit bytes (document_of limit bytes) answered placed);
-      fault = λ one. (λ e. subst (IsFileAnswer limit bytes) e answered, fault_is_answered line_laws limit bytes (document_of limit bytes) answered one);
+      document = λ placed. (λ e. subst (IsFileAnswer limit bytes) e answered, document_is_answered limit bytes (document_of limit bytes) answered placed);
+      fault = λ one. (λ e. subst (IsFileAnswer limit bytes) e answered, fault_is_answered limit bytes (document_of limit bytes) answered one);
     }
 
 -- an answer that is the document of the file, or its first fault or want of memory, is that of the function

@@ -1,6 +1,14 @@
 //! What the definitions of this crate amount to. Each law is the contract of a function that does nothing.
 ghost use Rattle.obo_frames.specs.Answer.{IsExact};
-ghost use Rattle.obo_frames.specs.Laws.{FirstFaultIsLeast, LinesRise, LinesSpell};
+ghost use Rattle.obo_frames.specs.Laws.{FirstFaultIsLeast, HasOneFault, IsDocumentOrFault, IsNeverBoth, IsOneDocument, LinesRise, LinesSpell};
+
+/// A file is one document, or it has one first fault, and never both.
+pub fn file_is_document_or_fault(bytes: &[u8], line_limit: u32)
+    ensures some { IsDocumentOrFault line_limit bytes.now }
+    ensures never_both { IsNeverBoth line_limit bytes.now }
+    ensures one_document { IsOneDocument line_limit bytes.now }
+    ensures one_fault { HasOneFault line_limit bytes.now }
+{}
 
 /// The clauses of a document stand in the order of their lines, and each is spelled by the line that it names; of an
 /// `id` clause that gives a frame its id the qualifiers are not kept.
