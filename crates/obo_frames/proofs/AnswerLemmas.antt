@@ -1,14 +1,11 @@
 -- The function that tells what a file comes to agrees with what the lines of the file say.
-use Rattle.std.proofs.Common.{◌≡◌, inl, inr, ℕ, Bool, List, [], ◌∷◌, Option, None, Some, Result, Ok, Err, ap, refl, subst, sym}
+use Rattle.std.proofs.Common.{◌≡◌, inl, inr, ℕ, List, [], ◌∷◌, Option, None, Some, Result, Ok, Err, ap, refl, subst, sym}
 use Rattle.std.specs.Result.{IfErr, IfOk}
 use Rattle.obo_lexer.specs.Items.{lines_of}
 use Rattle.obo_lexer.specs.declared.line.LineBody.{LineBody}
 use Rattle.obo_lexer.specs.declared.line.LineBody.TheVariants as body
 use Rattle.obo_lexer.specs.declared.line.LineItem.{LineItem}
-use Rattle.obo_tags.specs.declared.kind.FrameKind.{FrameKind}
-use Rattle.obo_clause.specs.Faults.{Fails}
 use Rattle.obo_clause.specs.ReadingLines.{answer_to}
-use Rattle.obo_clause.specs.Spelling.{Says}
 use Rattle.obo_clause.specs.declared.line.Line.{Line}
 use Rattle.obo_clause.specs.declared.line.SyntaxKind.{SyntaxKind}
 use Rattle.obo_frames.specs.Answer.{AnswersIt, IsExact, and_then, and_told, body_answer, document_of, frames_answer, lines_answer, numbered_answer, unless_faulty}
