@@ -1,30 +1,29 @@
 -- The answer to a line is what it says, or what is wrong with it; and from this the laws of lines.
-use Rattle.std.proofs.Common.{◌≡◌, ℕ, zero, suc, ◌<◌, ◌==◌, Bool, true, false, not, ◌&&◌, ◌||◌, cond, List, [], ◌∷◌, ◌++◌, codes, Option, Some, None, Result, Ok, Err, length, refl, sym, ap, subst, ◌∙◌, ◌⊎◌, inl, inr}
-use Rattle.std.specs.List.{AllPass, list_any}
+use Rattle.std.proofs.Common.{◌≡◌, ℕ, ◌==◌, Bool, true, false, ◌||◌, cond, List, [], ◌∷◌, ◌++◌, codes, Option, Some, None, Result, Ok, Err, refl, sym, ap, subst, ◌∙◌, inl, inr}
+use Rattle.std.specs.List.{AllPass}
 use Rattle.std.specs.Result.{IfErr, IfOk}
-use Rattle.std.proofs.lemmas.Bool.{eqb-true, false≢true, or_from, or_parts}
-use Rattle.std.proofs.lemmas.List.{append_assoc, append-nil}
+use Rattle.std.proofs.lemmas.Bool.{eqb-true, false≢true, or_parts}
+use Rattle.std.proofs.lemmas.List.{append_assoc}
 use Rattle.std.proofs.lemmas.List.Elements.{All-weaker}
 use Rattle.obo_lexer.specs.Tokens.{is_blank}
 use Rattle.obo_tags.specs.declared.kind.FrameKind.{FrameKind}
-use Rattle.obo_clause.specs.declared.clause.Clause.{Clause}
 use Rattle.obo_clause.specs.declared.line.Line.{Line}
 use Rattle.obo_clause.specs.declared.line.Line.TheVariants as says
 use Rattle.obo_clause.specs.declared.line.LineFault.{LineFault}
 use Rattle.obo_clause.specs.declared.line.LineFault.TheVariants as fault
 use Rattle.obo_clause.specs.declared.line.SyntaxKind.{SyntaxKind}
 use Rattle.obo_clause.specs.declared.line.SyntaxKind.TheVariants as syntax
-use Rattle.obo_clause.specs.Answers.{AnswersWhatFails, AnswersWhatIsSaid, IsFaultOf, IsUnlessNoMemory}
-use Rattle.obo_clause.specs.Faults.{Fails, IsClauseLine, Stops, is_colon}
+use Rattle.obo_clause.specs.Answers.{AnswersWhatFails, AnswersWhatIsSaid, IsFaultOf}
+use Rattle.obo_clause.specs.Faults.{Fails, IsClauseLine, Stops}
 use Rattle.obo_clause.specs.Laws.{FailsOneWay, HasAnswer, NeverSaysAndFails, SaysOneThing, SpellsOneClause}
 use Rattle.obo_clause.specs.Reading.{Answer, Gives, behind, front, next, trim_end, wanted}
 use Rattle.obo_clause.specs.ReadingLines.{answer_to, at_colon, is_before_colon, is_tag, read_clause, read_frame, read_tagged, read_trimmed}
-use Rattle.obo_clause.specs.Spelling.{IsBlankLine, IsFrameLine, IsLineComment, IsTagged, Says, Spells}
+use Rattle.obo_clause.specs.Spelling.{IsFrameLine, IsLineComment, IsTagged, Says}
 use Rattle.obo_clause.specs.Vocabulary.{is_one_of}
-use Rattle.obo_clause.proofs.LineLemmas.{FrameRead, answer-behind, clause-at, clause-no_colon, clause-parts, clause_on, comment-stops, frame-err, frame-finds, frame-read, tagged-answer, tagged-fails, tagged-finds, tagged-refuses, tagged-says, tagged-unique}
+use Rattle.obo_clause.proofs.LineLemmas.{answer-behind, clause-at, clause-no_colon, clause-parts, clause_on, comment-stops, frame-err, frame-finds, frame-read, tagged-answer, tagged-fails, tagged-finds, tagged-refuses, tagged-says, tagged-unique}
 use Rattle.obo_clause.proofs.RunLemmas.{pass-append, pass-right, run-passes, run-stops, run-whole}
 use Rattle.obo_clause.proofs.TagLemmas.{at_colon-finds, at_colon-found, at_colon-missing, at_colon-none, blank-not_colon, colon-behind, no-colon-all, no-colon-any, tagged-of}
-use Rattle.obo_clause.proofs.WordLemmas.{same-err, same-ok}
+use Rattle.obo_clause.proofs.WordLemmas.{same-ok}
 
 module _ (kind : FrameKind) (first : Bool) where
   -- ---- what a line says is the answer

@@ -1,7 +1,7 @@
 -- What stands behind the colon of a clause line, by the shape of its value: read as what it says, or refused for what is wrong.
-use Rattle.std.proofs.Common.{◌≡◌, ℕ, zero, suc, ◌<◌, ◌==◌, Bool, true, false, not, List, [], ◌∷◌, ◌++◌, Option, Some, None, Result, Ok, Err, length, refl, sym, ap, subst, ◌∙◌}
+use Rattle.std.proofs.Common.{◌≡◌, ℕ, List, [], ◌++◌, Ok, Err, refl, sym, ap, subst, ◌∙◌}
 use Rattle.std.specs.List.{AllPass}
-use Rattle.std.proofs.lemmas.List.{append_assoc, append-nil}
+use Rattle.std.proofs.lemmas.List.{append_assoc}
 use Rattle.obo_lexer.specs.Tokens.{is_blank}
 use Rattle.obo_tags.specs.declared.kind.ValueShape.{ValueShape}
 use Rattle.obo_tags.specs.declared.kind.ValueShape.TheVariants as shapes
@@ -10,10 +10,10 @@ use Rattle.obo_clause.specs.declared.clause.Value.{Value}
 use Rattle.obo_clause.specs.declared.clause.Value.TheVariants as value
 use Rattle.obo_clause.specs.declared.line.SyntaxKind.{SyntaxKind}
 use Rattle.obo_clause.specs.declared.values.Content.{Content}
-use Rattle.obo_clause.specs.Faults.{Stops, ValueFails}
+use Rattle.obo_clause.specs.Faults.{ValueFails}
 use Rattle.obo_clause.specs.Grammar.{IsTrimmed}
 use Rattle.obo_clause.specs.Marks.{Mark, marks_of}
-use Rattle.obo_clause.specs.Reading.{Answer, behind, front, trim, trim_end}
+use Rattle.obo_clause.specs.Reading.{behind, front, trim}
 use Rattle.obo_clause.specs.ReadingLines.{content, read_raw, read_shape}
 use Rattle.obo_clause.specs.Spelling.{IsContent, IsValue}
 use Rattle.obo_clause.proofs.FaultLemmas.{bool-refuses, bool-wrong, definition-refuses, definition-wrong, id-refuses, id-wrong, id_or_pair-refuses, id_or_pair-wrong, pair-refuses, pair-wrong, property-refuses, property-wrong, subset-refuses, subset-wrong, synonym-refuses, synonym-wrong, synonym_type-refuses, synonym_type-wrong}

@@ -1,16 +1,15 @@
 -- Blocks and endings: what is read as an ending is one, and each ending is read as what it says.
-use Rattle.std.proofs.Common.{◌≡◌, ℕ, zero, suc, ◌+◌, ◌<◌, ◌≤◌, ◌==◌, Bool, true, false, not, cond, List, [], ◌∷◌, ◌++◌, Option, Some, None, Result, Ok, Err, length, refl, sym, ap, subst, ◌∙◌, ◌⊎◌, inl, inr, ⊎_elim, arith, length-append}
-use Rattle.std.specs.List.{AllPass}
+use Rattle.std.proofs.Common.{◌≡◌, ℕ, zero, suc, ◌≤◌, Bool, true, false, cond, List, [], ◌∷◌, ◌++◌, Option, Some, None, length, refl, sym, ap, subst, ◌∙◌, arith, length-append}
 use Rattle.std.specs.Option.{option_and_then, option_map}
-use Rattle.std.proofs.lemmas.List.{append_assoc, append-nil}
+use Rattle.std.proofs.lemmas.List.{append_assoc}
 use Rattle.obo_clause.specs.declared.clause.Qualifier.{Qualifier}
-use Rattle.obo_clause.specs.Faults.{IsBehindBlanks, Stops}
+use Rattle.obo_clause.specs.Faults.{Stops}
 use Rattle.obo_clause.specs.Grammar.{AreBlanks, AreQualifiers, IsBlock, IsComment, IsEnding, IsQualifier}
-use Rattle.obo_clause.specs.Marks.{Mark, bare, read_as}
-use Rattle.obo_clause.specs.Reading.{Field, behind_blanks, behind_sign, block_at, block_end, block_ending, ending_at, ends_with, field_at, found, is_comment, is_sign, qualifier_of, qualifiers_from}
+use Rattle.obo_clause.specs.Marks.{Mark}
+use Rattle.obo_clause.specs.Reading.{Field, behind_blanks, behind_sign, block_at, block_end, block_ending, ending_at, ends_with, field_at, found, is_comment, qualifier_of, qualifiers_from}
 use Rattle.obo_clause.specs.Vocabulary.{block_close, block_open, comma, equals, exclamation, is_key_mark, is_space}
 use Rattle.obo_clause.proofs.FieldLemmas.{FieldFound, HasField, field-finds, field-found}
-use Rattle.obo_clause.proofs.RunLemmas.{pass-append, stops-run}
+use Rattle.obo_clause.proofs.RunLemmas.{stops-run}
 use Rattle.obo_clause.proofs.SignLemmas.{behind_sign-found, is_sign-bare, key-not_space}
 use Rattle.obo_clause.proofs.WordLemmas.{blanks-at, blanks-behind, same-some}
 

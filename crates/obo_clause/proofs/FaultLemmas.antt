@@ -1,33 +1,24 @@
 -- What is wrong behind a colon: each fault that is read is there, and each that is there is read.
-use Rattle.std.proofs.Common.{◌≡◌, ℕ, zero, suc, ◌<◌, ◌==◌, Bool, true, false, not, ◌&&◌, ◌||◌, cond, List, [], ◌∷◌, ◌++◌, Option, Some, None, is_some, Result, Ok, Err, length, refl, sym, ap, subst, ◌∙◌, ◌⊎◌, inl, inr, ⊎_elim, arith, length-append}
-use Rattle.std.specs.List.{AllPass}
-use Rattle.std.proofs.lemmas.Bool.{eqb-true, false≢true, ne_eqb, or_left, or_right}
-use Rattle.std.proofs.lemmas.List.{append_assoc, append-nil, nil_from_length}
-use Rattle.obo_clause.specs.declared.clause.Qualifier.{Qualifier}
+use Rattle.std.proofs.Common.{◌≡◌, ℕ, Bool, List, [], ◌∷◌, ◌++◌, Option, Some, None, Ok, Err, refl, sym, ap, subst, ◌∙◌}
+use Rattle.std.proofs.lemmas.List.{append_assoc}
 use Rattle.obo_clause.specs.declared.clause.Scope.{Scope}
 use Rattle.obo_clause.specs.declared.clause.Scope.TheVariants as scope
-use Rattle.obo_clause.specs.declared.clause.Value.{Value}
 use Rattle.obo_clause.specs.declared.clause.Value.TheVariants as value
-use Rattle.obo_clause.specs.declared.clause.Xref.{Xref}
 use Rattle.obo_clause.specs.declared.line.SyntaxKind.{SyntaxKind}
 use Rattle.obo_clause.specs.declared.line.SyntaxKind.TheVariants as syntax
 use Rattle.obo_clause.specs.declared.values.Content.{Content}
-use Rattle.obo_clause.specs.Faults.{HasWord, IsBehindBlanks, MayBeScope, MayHaveList, MayHaveScope, MayHaveWord, Stops, WantsEnd, WantsObject, WantsQuoted, WantsTruth, WantsWord, WantsXref, Wrong, is_quote}
-use Rattle.obo_clause.specs.Grammar.{AreBlanks, IsEnding, IsFree, IsQuoted, IsXrefList}
-use Rattle.obo_clause.specs.Marks.{Mark, bare, read_as}
-use Rattle.obo_clause.specs.Reading.{Answer, behind_blanks, behind_sign, end_of_quotes, ending_at, found, free_run, inside_quotes, list_at, next, quoted_at, stops_run, trim_end, wanted, word_at}
-use Rattle.obo_clause.specs.ReadingLines.{Scoped, content, datatype_of, ended, labelled, may_have_word, read_bool, read_definition, read_id, read_id_or_pair, read_link, read_literal, read_pair, read_property, read_subset, read_synonym, read_synonym_type, read_text, read_xref, scope_of, scoped_at, truth_of, type_behind, type_scope_at, want_truth, want_word, xref}
-use Rattle.obo_clause.specs.Spelling.{IsNoScope, bool_word, scope_word}
-use Rattle.obo_clause.specs.Vocabulary.{is_quoted_mark, is_space, list_close, list_open, quote}
-use Rattle.obo_clause.proofs.EndingLemmas.{ending-begins, ending-finds, ending-found}
-use Rattle.obo_clause.proofs.FreeLemmas.{free_run-stops}
+use Rattle.obo_clause.specs.Faults.{IsBehindBlanks, MayBeScope, MayHaveList, MayHaveScope, MayHaveWord, Stops, WantsEnd, WantsObject, WantsQuoted, WantsTruth, WantsWord, Wrong}
+use Rattle.obo_clause.specs.Marks.{Mark, read_as}
+use Rattle.obo_clause.specs.Reading.{Answer, behind_blanks, behind_sign, found, list_at, next, quoted_at, wanted, word_at}
+use Rattle.obo_clause.specs.ReadingLines.{Scoped, datatype_of, ended, may_have_word, read_bool, read_definition, read_id, read_id_or_pair, read_link, read_literal, read_pair, read_property, read_subset, read_synonym, read_synonym_type, scope_of, scoped_at, truth_of, type_behind, type_scope_at, want_truth, want_word}
+use Rattle.obo_clause.specs.Spelling.{scope_word}
+use Rattle.obo_clause.specs.Vocabulary.{is_space, list_close, list_open, quote}
 use Rattle.obo_clause.proofs.ListLemmas.{ListForm, list-broken, list-fails, list-finds, list-found, list-without}
-use Rattle.obo_clause.proofs.RunningText.{ReadText, free-finds, text-read}
 use Rattle.obo_clause.proofs.SignLemmas.{behind_sign-found, no_quote, quote_stops}
 use Rattle.obo_clause.proofs.SlotLemmas.{Listed}
 use Rattle.obo_clause.proofs.TailLemmas.{WentWrong, ended-fails, ended-refuses, on-with, not-on, scope-is, scope-missing, scope-none, scope-of, truth-is, truth-missing, truth-none, truth-of, want-finds, want-found, went-wrong}
 use Rattle.obo_clause.proofs.ValuesFound.{TypeScope}
-use Rattle.obo_clause.proofs.WordLemmas.{HasQuoted, HasRun, Two, blanks-at, blanks-of, inside-none, quoted-endless, quoted-fails, quoted-finds, quoted-found, quoted-is, quoted-missing, quoted-rest, quoted_marks, run-has, wanted-found, wanted-missing, word-finds, word-found, word-missing, word-none, word-run}
+use Rattle.obo_clause.proofs.WordLemmas.{HasQuoted, Two, blanks-at, blanks-of, quoted-endless, quoted-fails, quoted-finds, quoted-found, quoted-is, quoted-missing, quoted-rest, quoted_marks, run-has, wanted-found, wanted-missing, word-finds, word-found, word-missing, word-none, word-run}
 
 -- ---- wanted words
 

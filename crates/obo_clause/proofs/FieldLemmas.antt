@@ -1,19 +1,19 @@
 -- A qualifier: what the reader finds is one, and each one it finds, whatever blanks and comma or end stand behind it.
-use Rattle.std.proofs.Common.{◌≡◌, ℕ, zero, suc, ◌<◌, ◌==◌, Bool, true, false, not, cond, List, [], ◌∷◌, ◌++◌, Option, Some, None, Result, Ok, Err, length, refl, sym, ap, subst, ◌∙◌, ◌⊎◌, inl, inr, ⊎_elim, arith}
+use Rattle.std.proofs.Common.{◌≡◌, ℕ, zero, suc, ◌<◌, ◌==◌, Bool, true, false, cond, List, [], ◌∷◌, ◌++◌, Option, Some, None, length, refl, sym, ap, subst, ◌∙◌, ◌⊎◌, inl, inr, ⊎_elim, arith}
 use Rattle.std.specs.List.{AllPass}
 use Rattle.std.specs.Option.{option_and_then, option_map}
 use Rattle.std.proofs.lemmas.Bool.{ne_eqb}
-use Rattle.std.proofs.lemmas.List.{append_assoc, append-nil}
+use Rattle.std.proofs.lemmas.List.{append_assoc}
 use Rattle.std.proofs.lemmas.List.Elements.{All-weaker}
 use Rattle.obo_clause.specs.declared.clause.Qualifier.{Qualifier}
-use Rattle.obo_clause.specs.Faults.{IsBehindBlanks, Stops}
-use Rattle.obo_clause.specs.Grammar.{AreBlanks, AreTrimmed, IsKey, IsQualifier, IsQuoted, IsUnquoted}
-use Rattle.obo_clause.specs.Marks.{Mark, bare, read_as}
+use Rattle.obo_clause.specs.Faults.{Stops}
+use Rattle.obo_clause.specs.Grammar.{AreBlanks, AreTrimmed, IsQualifier, IsQuoted, IsUnquoted}
+use Rattle.obo_clause.specs.Marks.{Mark, read_as}
 use Rattle.obo_clause.specs.Reading.{Field, behind, behind_blanks, behind_sign, field_at, field_value, found, front, inside_quotes, is_sign, qualifier_of, quoted_field, trim_end, unquoted_field}
 use Rattle.obo_clause.specs.Vocabulary.{equals, is_key_mark, is_quoted_mark, is_space, is_unquoted_mark, quote}
-use Rattle.obo_clause.proofs.RunLemmas.{behind-none, behind-run, front-leaves, front-none, front-run, front-takes, pass-append, pass-head, pass-left, pass-nil, run-passes, run-stops, run-whole, trim_end-run, trimmed-run, trims}
+use Rattle.obo_clause.proofs.RunLemmas.{behind-run, front-leaves, front-run, front-takes, pass-append, pass-head, pass-left, pass-nil, run-passes, run-whole, trim_end-run, trimmed-run, trims}
 use Rattle.obo_clause.proofs.SignLemmas.{behind_sign-found, not-sign, space-not_key, space-unquoted}
-use Rattle.obo_clause.proofs.WordLemmas.{HasInside, blanks-at, blanks-behind, inside-finds, inside-found, quoted-is, quoted-rest, quoted_marks, same-some}
+use Rattle.obo_clause.proofs.WordLemmas.{blanks-at, blanks-behind, inside-finds, inside-found, quoted-is, quoted-rest, quoted_marks, same-some}
 
 blanks-pass : (test : Mark → Bool) → ((mark : Mark) → is_space mark ≡ true → test mark ≡ true) → (blanks : List Mark) → AreBlanks blanks → AllPass test blanks
 blanks-pass test weaker blanks blank = All-weaker (λ mark. is_space mark ≡ true) (λ mark. test mark ≡ true) weaker blanks blank

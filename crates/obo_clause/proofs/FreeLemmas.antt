@@ -1,10 +1,9 @@
 -- What the loop over a run of characters keeps true.
-use Rattle.std.proofs.Common.{◌≡◌, ℕ, zero, suc, ◌+◌, ◌-◌, ◌<◌, ◌≤◌, Bool, true, false, ◌||◌, ◌&&◌, List, [], ◌∷◌, ◌++◌, Option, Some, None, is_some, length, get_or, take, drop, refl, sym, ap, subst, ◌∙◌, arith, add-one, drop-cons, length-drop}
+use Rattle.std.proofs.Common.{◌≡◌, ℕ, ◌+◌, ◌-◌, ◌<◌, ◌≤◌, Bool, true, false, List, [], ◌∷◌, ◌++◌, Some, length, get_or, take, drop, refl, sym, ap, ◌∙◌, arith, add-one, drop-cons, length-drop}
 use Rattle.std.proofs.lemmas.List.{append_assoc, append-nil, drop_all, take_more}
 use Rattle.std.proofs.Math.Seq.{take-length}
-use Rattle.obo_clause.specs.declared.clause.Qualifier.{Qualifier}
 use Rattle.obo_clause.specs.Marks.{Mark, bare}
-use Rattle.obo_clause.specs.Reading.{behind_sign, ending_at, free_run, stops_run}
+use Rattle.obo_clause.specs.Reading.{ending_at, free_run, stops_run}
 
 -- what `&marks[k..]` gives
 pub slice-rest : (marks : List Mark) (k : ℕ) → take (length marks - k) (drop k marks) ≡ drop k marks

@@ -1,11 +1,9 @@
 -- Whole lines: the answer to a line is what it says or what is wrong with it, and both ways.
-use Rattle.std.proofs.Common.{◌≡◌, ℕ, zero, suc, ◌<◌, ◌==◌, Bool, true, false, not, ◌&&◌, ◌||◌, cond, List, [], ◌∷◌, ◌++◌, codes, Option, Some, None, Result, Ok, Err, drop, length, refl, sym, ap, subst, ◌∙◌, arith}
+use Rattle.std.proofs.Common.{◌≡◌, ℕ, ◌==◌, Bool, true, false, cond, List, [], ◌∷◌, ◌++◌, codes, Option, Some, None, Ok, Err, drop, length, refl, sym, ap, subst, ◌∙◌}
 use Rattle.std.specs.Prelude.{nat_eq}
-use Rattle.std.specs.List.{AllPass, list_any, starts_with}
-use Rattle.std.specs.Option.{option_map}
-use Rattle.std.proofs.lemmas.Bool.{eqb-true, false≢true, or_from, or_parts}
+use Rattle.std.specs.List.{AllPass, starts_with}
+use Rattle.std.proofs.lemmas.Bool.{eqb-true}
 use Rattle.std.proofs.lemmas.Bool.Decides.{Decides-eqb}
-use Rattle.std.proofs.lemmas.List.{append_assoc, append-nil}
 use Rattle.std.proofs.lemmas.Slice.Eq.{starts_is}
 use Rattle.obo_lexer.specs.Tokens.{is_blank}
 use Rattle.obo_tags.specs.declared.kind.FrameKind.{FrameKind}
@@ -16,16 +14,16 @@ use Rattle.obo_clause.specs.declared.line.Line.TheVariants as says
 use Rattle.obo_clause.specs.declared.line.SyntaxKind.{SyntaxKind}
 use Rattle.obo_clause.specs.declared.line.SyntaxKind.TheVariants as syntax
 use Rattle.obo_clause.specs.declared.values.Content.{Content}
-use Rattle.obo_clause.specs.Faults.{Fails, IsClauseLine, Stops, ValueFails, is_colon}
+use Rattle.obo_clause.specs.Faults.{Fails, Stops, ValueFails}
 use Rattle.obo_clause.specs.Marks.{marks_of}
-use Rattle.obo_clause.specs.Reading.{Answer, behind, found, front, next, trim_end, wanted}
+use Rattle.obo_clause.specs.Reading.{Answer, behind, found, front, trim_end, wanted}
 use Rattle.obo_clause.specs.ReadingLines.{Named, answer_to, at_colon, behind_start, content, frame_name, instance_name, is_line_comment, is_tag, later_name, read_clause, read_frame, read_shape, read_tagged, read_trimmed}
-use Rattle.obo_clause.specs.Spelling.{IsBlankLine, IsContent, IsFrameLine, IsKindName, IsLineComment, IsTagged, Says, Spells, shape_at}
-use Rattle.obo_clause.specs.Vocabulary.{is_one_of, is_tag_byte}
+use Rattle.obo_clause.specs.Spelling.{IsContent, IsFrameLine, IsKindName, IsLineComment, IsTagged, Says, shape_at}
+use Rattle.obo_clause.specs.Vocabulary.{is_tag_byte}
 use Rattle.obo_clause.proofs.ContentLemmas.{content-found, content-is, content-refuses, content-wrong}
-use Rattle.obo_clause.proofs.RunLemmas.{behind-run, run-passes, run-stops, run-whole}
-use Rattle.obo_clause.proofs.TagLemmas.{TagParts, at_colon-finds, at_colon-found, at_colon-missing, at_colon-none, byte-not, colon-behind, no-colon-all, no-colon-any, tag-parts, tagged-of}
-use Rattle.obo_clause.proofs.TailLemmas.{WentOn, WentWrong, not-on, on-with, went-on, went-wrong}
+use Rattle.obo_clause.proofs.RunLemmas.{behind-run, run-passes, run-whole}
+use Rattle.obo_clause.proofs.TagLemmas.{TagParts, byte-not, tag-parts}
+use Rattle.obo_clause.proofs.TailLemmas.{WentWrong, not-on, on-with, went-on, went-wrong}
 use Rattle.obo_clause.proofs.WordLemmas.{same-ok, same-some, wanted-found, wanted-missing}
 
 -- ---- comments

@@ -1,20 +1,20 @@
 -- Lists of dbxrefs: each list is read as what it says, and each broken one is refused with its fault.
-use Rattle.std.proofs.Common.{◌≡◌, ℕ, zero, suc, ◌+◌, ◌<◌, ◌≤◌, ◌==◌, Bool, true, false, not, cond, List, [], ◌∷◌, ◌++◌, Option, Some, None, Result, Ok, Err, length, refl, sym, ap, subst, ◌∙◌, ◌⊎◌, inl, inr, ⊎_elim, arith, length-append}
+use Rattle.std.proofs.Common.{◌≡◌, ℕ, zero, suc, ◌<◌, false, cond, List, [], ◌∷◌, ◌++◌, Option, Some, None, Ok, Err, length, refl, sym, ap, subst, ◌∙◌, arith, length-append}
 use Rattle.std.specs.List.{AllPass}
 use Rattle.std.proofs.lemmas.Bool.{ne_eqb}
 use Rattle.std.proofs.lemmas.List.{append_assoc, append-nil}
 use Rattle.obo_clause.specs.declared.clause.Xref.{Xref}
 use Rattle.obo_clause.specs.declared.line.SyntaxKind.{SyntaxKind}
 use Rattle.obo_clause.specs.declared.line.SyntaxKind.TheVariants as syntax
-use Rattle.obo_clause.specs.Faults.{IsBehindBlanks, ListFails, MayHaveList, Stops, Wrong, is_list_open, is_slot_end}
-use Rattle.obo_clause.specs.Grammar.{AreBlanks, AreSlots, AreTrimmed, IsEntry, IsLabel, IsQuoted, IsSlot, IsXrefList}
-use Rattle.obo_clause.specs.Marks.{Mark, bare, read_as}
-use Rattle.obo_clause.specs.Reading.{Answer, Slot, behind, behind_blanks, behind_sign, end_of_quotes, found, front, inside_quotes, is_sign, label_at, list_at, list_end, next, slot_at, slots_from, text_read, trim, wanted, xrefs_of}
+use Rattle.obo_clause.specs.Faults.{IsBehindBlanks, ListFails, MayHaveList, Stops, Wrong, is_list_open}
+use Rattle.obo_clause.specs.Grammar.{AreBlanks, AreSlots, IsEntry, IsLabel, IsQuoted, IsSlot}
+use Rattle.obo_clause.specs.Marks.{Mark, read_as}
+use Rattle.obo_clause.specs.Reading.{Answer, Slot, behind_blanks, behind_sign, end_of_quotes, found, is_sign, label_at, list_at, list_end, next, slot_at, slots_from, text_read, trim, wanted, xrefs_of}
 use Rattle.obo_clause.specs.Vocabulary.{comma, is_entry_mark, is_quoted_mark, is_space, list_close, list_open, quote}
-use Rattle.obo_clause.proofs.RunLemmas.{behind-none, behind-run, front-none, front-run, pass-append, pass-nil, trim-run}
+use Rattle.obo_clause.proofs.RunLemmas.{behind-run, front-run, pass-append, trim-run}
 use Rattle.obo_clause.proofs.SignLemmas.{behind_sign-found, list_stops, no_list}
-use Rattle.obo_clause.proofs.SlotLemmas.{HasSlots, Listed, blanks-entry, slot_end-close, slot_end-comma, slot_end-none, slots-found, slots-wrong, some-trim, some-xref, trim-blank}
-use Rattle.obo_clause.proofs.WordLemmas.{blanks-at, blanks-behind, blanks-of, inside-finds, inside-none, quoted-is, quoted-rest, quoted_marks, same-ok}
+use Rattle.obo_clause.proofs.SlotLemmas.{Listed, blanks-entry, slot_end-close, slot_end-comma, slot_end-none, slots-found, slots-wrong, some-trim, some-xref, trim-blank}
+use Rattle.obo_clause.proofs.WordLemmas.{blanks-at, blanks-behind, blanks-of, inside-finds, inside-none, same-ok}
 
 -- ---- one slot, by its run and what stands behind it
 

@@ -1,13 +1,13 @@
 -- What the loops over lists of xrefs and of qualifiers keep true.
-use Rattle.std.proofs.Common.{◌≡◌, ℕ, zero, suc, ◌+◌, ◌-◌, ◌<◌, ◌≤◌, List, [], ◌∷◌, ◌++◌, Option, Some, None, Ok, Err, length, refl, sym, ap, subst, ◌∙◌, arith}
+use Rattle.std.proofs.Common.{◌≡◌, ℕ, suc, ◌+◌, ◌-◌, ◌<◌, ◌≤◌, List, [], ◌∷◌, ◌++◌, Option, Some, None, Ok, Err, refl, sym, ap, ◌∙◌, arith}
 use Rattle.std.specs.Option.{option_map}
-use Rattle.std.proofs.lemmas.List.{append_assoc, append-nil}
+use Rattle.std.proofs.lemmas.List.{append_assoc}
 use Rattle.obo_clause.specs.declared.clause.Qualifier.{Qualifier}
 use Rattle.obo_clause.specs.declared.clause.Xref.{Xref}
 use Rattle.obo_clause.specs.declared.line.SyntaxKind.{SyntaxKind}
 use Rattle.obo_clause.specs.declared.line.SyntaxKind.TheVariants.{XrefList}
 use Rattle.obo_clause.specs.Marks.{Mark}
-use Rattle.obo_clause.specs.Reading.{Answer, Field, Slot, behind_sign, behind_blanks, block_end, field_at, found, list_end, next, qualifier_of, qualifiers_from, slot_at, slots_from, wanted, xrefs_of}
+use Rattle.obo_clause.specs.Reading.{Answer, Field, behind_sign, behind_blanks, block_end, field_at, found, list_end, next, qualifier_of, qualifiers_from, slot_at, slots_from, wanted, xrefs_of}
 
 -- an answer with xrefs before it
 abbrev pub onto : List Xref → Answer (List Xref × List Mark) → Answer (List Xref × List Mark)

@@ -1,17 +1,17 @@
 -- Runs of characters: the run that is read has no ending inside it, and a run with none is read whole.
-use Rattle.std.proofs.Common.{◌≡◌, ℕ, zero, suc, ◌+◌, ◌<◌, ◌≤◌, ◌==◌, Bool, true, false, not, ◌&&◌, ◌||◌, cond, List, [], ◌∷◌, ◌++◌, Option, Some, None, is_some, length, refl, sym, ap, subst, ◌∙◌, arith, length-append}
+use Rattle.std.proofs.Common.{◌≡◌, ◌<◌, Bool, true, false, not, ◌&&◌, cond, List, [], ◌∷◌, ◌++◌, Option, Some, None, is_some, length, refl, sym, ap, subst, ◌∙◌, arith, length-append}
 use Rattle.std.specs.List.{AllPass}
-use Rattle.std.proofs.lemmas.Bool.{false≢true, or_from, or_left, or_parts}
-use Rattle.std.proofs.lemmas.List.{append_assoc, append-nil}
+use Rattle.std.proofs.lemmas.Bool.{false≢true, or_from, or_parts}
+use Rattle.std.proofs.lemmas.List.{append_assoc}
 use Rattle.obo_clause.specs.declared.clause.Qualifier.{Qualifier}
 use Rattle.obo_clause.specs.Faults.{Stops, is_quote}
 use Rattle.obo_clause.specs.Grammar.{AreBlanks, AreTrimmed, IsEnding, IsFree}
-use Rattle.obo_clause.specs.Marks.{Mark, bare, read_as}
+use Rattle.obo_clause.specs.Marks.{Mark}
 use Rattle.obo_clause.specs.Reading.{behind_blanks, behind_sign, ending_at, free_run, is_sign, stops_run, trim_end}
-use Rattle.obo_clause.specs.Vocabulary.{is_quoted_mark, is_space, quote}
+use Rattle.obo_clause.specs.Vocabulary.{is_quoted_mark, is_space}
 use Rattle.obo_clause.proofs.EndingLemmas.{ending-begins, ending-finds, ending-found}
 use Rattle.obo_clause.proofs.FreeLemmas.{free_run-goes, free_run-stops}
-use Rattle.obo_clause.proofs.RunLemmas.{Trimmed, pass-append, pass-cons, pass-head, pass-left, pass-nil, pass-right, pass-tail, trim_end-run, trimmed-run, trims}
+use Rattle.obo_clause.proofs.RunLemmas.{pass-append, pass-cons, pass-head, pass-nil, pass-right, pass-tail, trim_end-run, trimmed-run, trims}
 use Rattle.obo_clause.proofs.SignLemmas.{behind_sign-none, is_quote-sign}
 use Rattle.obo_clause.proofs.WordLemmas.{blanks-at, blanks-behind}
 

@@ -9,7 +9,7 @@ use Rattle.std.proofs.lemmas.List.Folds.{list_any-append}
 use Rattle.obo_tags.specs.declared.kind.FrameKind.{FrameKind}
 use Rattle.obo_tags.specs.declared.kind.FrameKind.TheVariants.{Header, Instance, Term, Typedef}
 use Rattle.obo_tags.specs.declared.kind.ValueShape.TheVariants.{Raw}
-use Rattle.obo_tags.specs.Table.{every_tag, is_among, is_known, place_of, shape_behind, shape_in, shape_of, tags_of}
+use Rattle.obo_tags.specs.Table.{is_among, is_known, shape_behind, shape_in, tags_of}
 
 some-from : (p : List ℕ → Bool) (i : ℕ) (tags : List (List ℕ)) → is_some (position_from p i tags) ≡ list_any p tags
 some-from p i [] = refl

@@ -1,12 +1,11 @@
 -- Signs and classes of marks: what a sign is, and which marks two classes share.
-use Rattle.std.proofs.Common.{◌≡◌, ℕ, zero, suc, ◌<◌, ◌==◌, Bool, true, false, not, ◌&&◌, ◌||◌, cond, List, [], ◌∷◌, ◌++◌, codes, Option, Some, None, length, refl, sym, ap, subst, ◌∙◌, ◌⊎◌, inl, inr, ⊎_elim, arith}
-use Rattle.std.specs.List.{AllPass, list_any}
+use Rattle.std.proofs.Common.{◌≡◌, ℕ, ◌==◌, Bool, true, false, not, ◌&&◌, ◌||◌, cond, List, [], ◌∷◌, Some, None, refl, sym, ap, ◌∙◌, ◌⊎◌, inl, inr, ⊎_elim}
 use Rattle.std.proofs.lemmas.Bool.{and_parts, eqb-true, false≢true, not-true, or_cases}
 use Rattle.obo_lexer.specs.Tokens.{is_blank}
-use Rattle.obo_clause.specs.Faults.{Stops, is_list_open, is_quote, is_slot_end}
+use Rattle.obo_clause.specs.Faults.{Stops, is_list_open, is_quote}
 use Rattle.obo_clause.specs.Marks.{Mark, bare}
 use Rattle.obo_clause.specs.Reading.{behind_sign, is_sign}
-use Rattle.obo_clause.specs.Vocabulary.{is_bare, is_entry_mark, is_key_mark, is_one_of, is_quoted_mark, is_space, is_unquoted_mark, is_word_mark}
+use Rattle.obo_clause.specs.Vocabulary.{is_entry_mark, is_key_mark, is_quoted_mark, is_space, is_unquoted_mark, is_word_mark}
 
 -- ---- signs
 

@@ -1,20 +1,20 @@
 -- Lists of dbxrefs: what is read of a list is what it says, each list is read, and each broken one is refused as it should be.
-use Rattle.std.proofs.Common.{◌≡◌, ℕ, zero, suc, ◌+◌, ◌<◌, ◌≤◌, ◌==◌, Bool, true, false, not, ◌||◌, cond, List, [], ◌∷◌, ◌++◌, Option, Some, None, Result, Ok, Err, length, refl, sym, ap, subst, ◌∙◌, ◌⊎◌, inl, inr, ⊎_elim, arith, length-append}
+use Rattle.std.proofs.Common.{◌≡◌, ℕ, zero, suc, ◌<◌, ◌==◌, Bool, true, false, not, ◌||◌, cond, List, [], ◌∷◌, ◌++◌, Option, Some, None, Ok, Err, length, refl, sym, ap, subst, ◌∙◌, arith, length-append}
 use Rattle.std.specs.List.{AllPass}
-use Rattle.std.proofs.lemmas.Bool.{eqb-true, false≢true, ne_eqb}
+use Rattle.std.proofs.lemmas.Bool.{eqb-true, ne_eqb}
 use Rattle.std.proofs.lemmas.List.{append_assoc, append-nil, nil_from_length}
 use Rattle.std.proofs.lemmas.List.Elements.{All-weaker}
 use Rattle.obo_clause.specs.declared.clause.Xref.{Xref}
 use Rattle.obo_clause.specs.declared.line.SyntaxKind.{SyntaxKind}
 use Rattle.obo_clause.specs.declared.line.SyntaxKind.TheVariants as syntax
-use Rattle.obo_clause.specs.Faults.{IsBehindBlanks, ListFails, Stops, is_slot_end}
-use Rattle.obo_clause.specs.Grammar.{AreBlanks, AreSlots, AreTrimmed, IsEntry, IsLabel, IsQuoted, IsSlot}
-use Rattle.obo_clause.specs.Marks.{Mark, bare, read_as}
+use Rattle.obo_clause.specs.Faults.{ListFails, Stops, is_slot_end}
+use Rattle.obo_clause.specs.Grammar.{AreBlanks, AreSlots, AreTrimmed, IsEntry, IsSlot}
+use Rattle.obo_clause.specs.Marks.{Mark, read_as}
 use Rattle.obo_clause.specs.Reading.{Answer, Slot, behind, behind_blanks, behind_sign, end_of_quotes, found, front, inside_quotes, is_sign, label_at, list_end, next, slot_at, slots_from, text_read, trim, trim_end, wanted, xrefs_of}
 use Rattle.obo_clause.specs.Vocabulary.{comma, is_entry_mark, is_quoted_mark, is_space, list_close, quote}
-use Rattle.obo_clause.proofs.RunLemmas.{behind-none, behind-run, front-none, front-run, pass-append, pass-head, pass-left, pass-nil, pass-right, run-passes, run-stops, run-whole, trim-run, trim_end-blank, trimmed-run, trims}
+use Rattle.obo_clause.proofs.RunLemmas.{pass-append, pass-left, pass-nil, pass-right, run-passes, run-stops, run-whole, trim_end-blank, trimmed-run, trims}
 use Rattle.obo_clause.proofs.SignLemmas.{behind_sign-found, behind_sign-none, behind_sign-stops, space-entry, stops-by}
-use Rattle.obo_clause.proofs.WordLemmas.{blanks-at, blanks-behind, blanks-of, inside-finds, inside-found, inside-missing, inside-none, quoted-is, quoted-rest, quoted_marks, same-err, same-ok, same-some, wanted-found, wanted-missing}
+use Rattle.obo_clause.proofs.WordLemmas.{blanks-at, blanks-behind, inside-found, inside-missing, quoted-is, quoted_marks, same-ok}
 
 pub blanks-entry : (blanks : List Mark) → AreBlanks blanks → AllPass is_entry_mark blanks
 blanks-entry blanks blank = All-weaker (λ mark. is_space mark ≡ true) (λ mark. is_entry_mark mark ≡ true) space-entry blanks blank

@@ -1,17 +1,16 @@
 -- The bytes before a colon: blanks, colons and tags.
-use Rattle.std.proofs.Common.{◌≡◌, ℕ, zero, suc, ◌<◌, ◌==◌, Bool, true, false, not, ◌&&◌, ◌||◌, cond, List, [], ◌∷◌, ◌++◌, codes, Option, Some, None, length, refl, sym, ap, subst, ◌∙◌, ◌⊎◌, ⊎_elim, arith}
-use Rattle.std.specs.Char.{is_ascii_alphanumeric}
+use Rattle.std.proofs.Common.{◌≡◌, ℕ, zero, suc, ◌<◌, ◌==◌, Bool, true, false, not, ◌&&◌, ◌||◌, List, [], ◌∷◌, ◌++◌, Some, None, length, refl, sym, ap, subst, ◌∙◌, arith}
 use Rattle.std.specs.List.{AllPass, list_all, list_any}
-use Rattle.std.proofs.lemmas.Bool.{and_parts, eqb-false, eqb-true, false≢true, ne_eqb, or_cases, or_parts}
+use Rattle.std.proofs.lemmas.Bool.{and_parts, eqb-true, false≢true, ne_eqb, or_parts}
 use Rattle.std.proofs.lemmas.List.{append_assoc, append-nil}
 use Rattle.std.proofs.lemmas.List.Sums.{AllPass-from_list_all, list_all-from_AllPass}
 use Rattle.obo_lexer.specs.Tokens.{is_blank}
-use Rattle.obo_clause.specs.Faults.{IsClauseLine, Stops, is_colon}
+use Rattle.obo_clause.specs.Faults.{Stops, is_colon}
 use Rattle.obo_clause.specs.Reading.{behind, front, trim_end}
 use Rattle.obo_clause.specs.ReadingLines.{around_colon, at_colon, is_before_colon, is_tag}
 use Rattle.obo_clause.specs.Spelling.{IsTagged}
-use Rattle.obo_clause.specs.Vocabulary.{is_one_of, is_tag_byte}
-use Rattle.obo_clause.proofs.RunLemmas.{behind-none, behind-run, front-run, pass-append, pass-cons, pass-head, pass-nil, pass-tail, run-passes, run-stops, run-whole, stops-run, trim_end-run, trims}
+use Rattle.obo_clause.specs.Vocabulary.{is_tag_byte}
+use Rattle.obo_clause.proofs.RunLemmas.{behind-run, front-run, pass-append, pass-cons, pass-head, pass-nil, pass-tail, run-passes, run-stops, run-whole, stops-run, trim_end-run, trims}
 use Rattle.obo_clause.proofs.WordLemmas.{same-some}
 
 -- a test that is false of a byte is false of each byte that is it

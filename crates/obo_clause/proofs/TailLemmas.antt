@@ -1,9 +1,8 @@
 -- What stands behind a value: blanks and an ending; and the words that mean a truth value or a scope.
-use Rattle.std.proofs.Common.{◌≡◌, ℕ, zero, suc, ◌<◌, ◌==◌, Bool, true, false, not, cond, if◌then◌else◌, List, [], ◌∷◌, ◌++◌, codes, Option, Some, None, Result, Ok, Err, length, refl, sym, ap, subst, ◌∙◌, ◌⊎◌, inl, inr, ⊎_elim, arith}
+use Rattle.std.proofs.Common.{◌≡◌, ℕ, ◌<◌, Bool, true, false, cond, List, [], ◌∷◌, ◌++◌, codes, Option, Some, None, Ok, Err, length, refl, sym, ap, subst, ◌∙◌, arith}
 use Rattle.std.specs.List.{AllPass}
 use Rattle.std.specs.Str.{bytes_eq}
 use Rattle.std.proofs.lemmas.Bool.{false≢true}
-use Rattle.std.proofs.lemmas.List.{append_assoc, append-nil}
 use Rattle.std.proofs.lemmas.Slice.Eq.{bytes_eq-Decides}
 use Rattle.obo_clause.specs.declared.clause.Qualifier.{Qualifier}
 use Rattle.obo_clause.specs.declared.clause.Scope.{Scope}
@@ -12,17 +11,17 @@ use Rattle.obo_clause.specs.declared.clause.Value.{Value}
 use Rattle.obo_clause.specs.declared.line.SyntaxKind.{SyntaxKind}
 use Rattle.obo_clause.specs.declared.line.SyntaxKind.TheVariants as syntax
 use Rattle.obo_clause.specs.declared.values.Content.{Content}
-use Rattle.obo_clause.specs.Faults.{HasNoWord, IsBehindBlanks, Stops, WantsEnd}
+use Rattle.obo_clause.specs.Faults.{IsBehindBlanks, Stops, WantsEnd}
 use Rattle.obo_clause.specs.Grammar.{AreBlanks, IsEnding}
-use Rattle.obo_clause.specs.Marks.{Mark, bare, read_as}
-use Rattle.obo_clause.specs.Reading.{Answer, behind_blanks, behind_sign, end_at, ending_at, next, wanted, word_at}
+use Rattle.obo_clause.specs.Marks.{Mark}
+use Rattle.obo_clause.specs.Reading.{Answer, behind_blanks, end_at, ending_at, next, wanted, word_at}
 use Rattle.obo_clause.specs.ReadingLines.{content, ended, scope_of, truth_of, want_word}
 use Rattle.obo_clause.specs.Spelling.{IsNoScope, bool_word, scope_word}
-use Rattle.obo_clause.specs.Vocabulary.{block_open, exclamation, is_quoted_mark, is_space, is_word_mark}
+use Rattle.obo_clause.specs.Vocabulary.{block_open, exclamation, is_space, is_word_mark}
 use Rattle.obo_clause.proofs.EndingLemmas.{ending-begins, ending-finds, ending-found}
 use Rattle.obo_clause.proofs.RunLemmas.{pass-head}
 use Rattle.obo_clause.proofs.RunningText.{no-ending}
-use Rattle.obo_clause.proofs.SignLemmas.{behind_sign-stops, space-not_word}
+use Rattle.obo_clause.proofs.SignLemmas.{space-not_word}
 use Rattle.obo_clause.proofs.WordLemmas.{HasRun, Two, blanks-at, blanks-behind, blanks-of, same-ok, wanted-found, word-finds, word-found, word-none}
 
 -- ---- one step of reading

@@ -1,8 +1,7 @@
 -- What is read behind a colon is a value in the shape of its tag, with an ending behind it.
-use Rattle.std.proofs.Common.{◌≡◌, ℕ, zero, suc, ◌<◌, ◌==◌, Bool, true, false, not, ◌&&◌, ◌||◌, cond, List, [], ◌∷◌, ◌++◌, Option, Some, None, is_some, Result, Ok, Err, length, refl, sym, ap, subst, ◌∙◌, ◌⊎◌, inl, inr, ⊎_elim, arith, length-append}
+use Rattle.std.proofs.Common.{◌≡◌, ℕ, zero, suc, ◌<◌, ◌==◌, Bool, true, false, cond, List, [], ◌∷◌, ◌++◌, Option, Some, None, Ok, Err, length, refl, sym, ap, subst, ◌∙◌, arith}
 use Rattle.std.specs.Prelude.{unwrap_or}
 use Rattle.std.specs.List.{AllPass}
-use Rattle.std.specs.Option.{option_map}
 use Rattle.std.proofs.lemmas.List.{append_assoc, append-nil}
 use Rattle.obo_tags.specs.declared.kind.ValueShape.{ValueShape}
 use Rattle.obo_tags.specs.declared.kind.ValueShape.TheVariants as shapes
@@ -11,23 +10,22 @@ use Rattle.obo_clause.specs.declared.clause.Scope.{Scope}
 use Rattle.obo_clause.specs.declared.clause.Scope.TheVariants as scope
 use Rattle.obo_clause.specs.declared.clause.Value.{Value}
 use Rattle.obo_clause.specs.declared.clause.Value.TheVariants as value
-use Rattle.obo_clause.specs.declared.clause.Xref.{Xref}
 use Rattle.obo_clause.specs.declared.line.SyntaxKind.TheVariants as syntax
 use Rattle.obo_clause.specs.declared.values.Content.{Content}
 use Rattle.obo_clause.specs.Faults.{Stops}
-use Rattle.obo_clause.specs.Grammar.{AreBlanks, IsEnding, IsFree, IsLabel, IsXrefList}
-use Rattle.obo_clause.specs.Marks.{Mark, bare, read_as}
-use Rattle.obo_clause.specs.Reading.{Answer, behind_blanks, behind_sign, ending_at, found, free_run, list_at, next, quoted_at, stops_run, trim_end, wanted, word_at}
+use Rattle.obo_clause.specs.Grammar.{AreBlanks, IsEnding, IsFree}
+use Rattle.obo_clause.specs.Marks.{Mark, read_as}
+use Rattle.obo_clause.specs.Reading.{Answer, behind_blanks, behind_sign, ending_at, found, free_run, list_at, next, quoted_at, trim_end, wanted, word_at}
 use Rattle.obo_clause.specs.ReadingLines.{Scoped, content, datatype_of, ended, labelled, may_have_word, read_bool, read_definition, read_id, read_id_or_pair, read_link, read_literal, read_pair, read_property, read_subset, read_synonym, read_synonym_type, read_text, read_xref, scope_of, scoped_at, truth_of, type_behind, type_scope_at, want_truth, want_word, xref}
-use Rattle.obo_clause.specs.Spelling.{IsMoreList, IsMoreWord, IsScoped, IsSecondWord, IsTypeScope, IsValue, bool_word, scope_word, text_datatype}
+use Rattle.obo_clause.specs.Spelling.{IsMoreList, IsMoreWord, IsScoped, IsSecondWord, IsTypeScope, IsValue, scope_word, text_datatype}
 use Rattle.obo_clause.specs.Vocabulary.{is_quoted_mark, is_space, list_close, list_open, quote}
 use Rattle.obo_clause.proofs.EndingLemmas.{ending-found}
 use Rattle.obo_clause.proofs.ListLemmas.{ListForm, list-found}
 use Rattle.obo_clause.proofs.RunLemmas.{pass-append, pass-head, pass-left, pass-nil}
-use Rattle.obo_clause.proofs.RunningText.{ReadText, text-read}
+use Rattle.obo_clause.proofs.RunningText.{text-read}
 use Rattle.obo_clause.proofs.SlotLemmas.{Listed}
-use Rattle.obo_clause.proofs.TailLemmas.{Tail, WentOn, ended-ok, scope-is, scope-missing, spaced, truth-is, want-found, went-on}
-use Rattle.obo_clause.proofs.WordLemmas.{HasQuoted, HasRun, Two, blanks-at, quoted-found, quoted-is, quoted-rest, quoted_marks, run-word, same-ok, same-some, wanted-found, word-found}
+use Rattle.obo_clause.proofs.TailLemmas.{Tail, ended-ok, scope-is, scope-missing, spaced, truth-is, want-found, went-on}
+use Rattle.obo_clause.proofs.WordLemmas.{HasQuoted, HasRun, Two, quoted-found, quoted-is, quoted_marks, run-word, same-ok, wanted-found, word-found}
 
 -- blanks, a value, blanks and an ending
 pub record Reads (shape : ValueShape) (marks : List Mark) (one : Content) : Type 0 where

@@ -1,8 +1,7 @@
 -- Each value with an ending behind it is read as what it is.
-use Rattle.std.proofs.Common.{◌≡◌, ℕ, zero, suc, ◌<◌, ◌==◌, Bool, true, false, not, ◌&&◌, ◌||◌, cond, List, [], ◌∷◌, ◌++◌, Option, Some, None, is_some, Result, Ok, Err, length, refl, sym, ap, subst, ◌∙◌, ◌⊎◌, inl, inr, ⊎_elim, arith, length-append}
+use Rattle.std.proofs.Common.{◌≡◌, ℕ, ◌<◌, ◌==◌, Bool, true, false, not, ◌&&◌, cond, List, [], ◌∷◌, ◌++◌, Option, Some, None, is_some, Ok, Err, length, refl, sym, ap, subst, ◌∙◌, arith}
 use Rattle.std.specs.Prelude.{unwrap_or}
 use Rattle.std.specs.List.{AllPass}
-use Rattle.std.specs.Option.{option_map}
 use Rattle.std.proofs.lemmas.Bool.{ne_eqb, or_left, or_right}
 use Rattle.std.proofs.lemmas.List.{append_assoc, append-nil}
 use Rattle.std.proofs.lemmas.List.Elements.{All-weaker}
@@ -16,22 +15,22 @@ use Rattle.obo_clause.specs.declared.clause.Value.TheVariants as value
 use Rattle.obo_clause.specs.declared.clause.Xref.{Xref}
 use Rattle.obo_clause.specs.declared.line.SyntaxKind.TheVariants as syntax
 use Rattle.obo_clause.specs.declared.values.Content.{Content}
-use Rattle.obo_clause.specs.Faults.{IsBehindBlanks, Stops}
-use Rattle.obo_clause.specs.Grammar.{AreBlanks, IsEnding, IsFree, IsLabel, IsQuoted, IsWord, IsXrefList}
-use Rattle.obo_clause.specs.Marks.{Mark, bare, read_as}
-use Rattle.obo_clause.specs.Reading.{Answer, behind_blanks, behind_sign, ending_at, found, free_run, list_at, next, quoted_at, stops_run, trim_end, wanted, word_at}
-use Rattle.obo_clause.specs.ReadingLines.{Scoped, content, datatype_of, ended, labelled, may_have_word, read_bool, read_definition, read_id, read_id_or_pair, read_link, read_literal, read_pair, read_property, read_subset, read_synonym, read_synonym_type, read_text, read_xref, scope_of, scoped_at, truth_of, type_behind, type_scope_at, want_truth, want_word, xref}
+use Rattle.obo_clause.specs.Faults.{Stops}
+use Rattle.obo_clause.specs.Grammar.{AreBlanks, IsEnding, IsLabel, IsQuoted, IsWord}
+use Rattle.obo_clause.specs.Marks.{Mark, read_as}
+use Rattle.obo_clause.specs.Reading.{Answer, behind_blanks, behind_sign, ending_at, found, list_at, next, quoted_at, stops_run, trim_end, wanted, word_at}
+use Rattle.obo_clause.specs.ReadingLines.{Scoped, content, datatype_of, ended, labelled, may_have_word, read_bool, read_definition, read_id, read_id_or_pair, read_link, read_literal, read_pair, read_property, read_subset, read_synonym, read_synonym_type, read_text, read_xref, scope_of, scoped_at, type_behind, type_scope_at, want_truth, want_word, xref}
 use Rattle.obo_clause.specs.Spelling.{IsMoreList, IsMoreWord, IsRun, IsScoped, IsSecondWord, IsTypeScope, IsValue, bool_word, scope_word, text_datatype}
 use Rattle.obo_clause.specs.Vocabulary.{is_quoted_mark, is_space, is_word_mark, list_close, list_open, quote}
 use Rattle.obo_clause.proofs.EndingLemmas.{ending-begins, ending-finds}
 use Rattle.obo_clause.proofs.ListLemmas.{list-finds, list-none}
 use Rattle.obo_clause.proofs.RunLemmas.{pass-append, pass-head, pass-nil, stops-run}
-use Rattle.obo_clause.proofs.RunningText.{TextAt, text-at}
+use Rattle.obo_clause.proofs.RunningText.{text-at}
 use Rattle.obo_clause.proofs.SignLemmas.{behind_sign-stops, not-sign, space-not_word, space-quoted}
 use Rattle.obo_clause.proofs.SlotLemmas.{Listed}
-use Rattle.obo_clause.proofs.TailLemmas.{end-finds, ended-finds, on-with, scope-none, scope-of, tail-at, tail-no_word, tail-stops, tail-stops_word, truth-of, want-finds}
-use Rattle.obo_clause.proofs.ValuesFound.{Reads, TypeScope}
-use Rattle.obo_clause.proofs.WordLemmas.{HasQuoted, HasRun, Two, blanks-behind, quoted-finds, quoted-rest, quoted_marks, run-begins, word-finds, word-none}
+use Rattle.obo_clause.proofs.TailLemmas.{ended-finds, on-with, scope-none, scope-of, tail-no_word, tail-stops_word, truth-of, want-finds}
+use Rattle.obo_clause.proofs.ValuesFound.{TypeScope}
+use Rattle.obo_clause.proofs.WordLemmas.{HasQuoted, HasRun, Two, blanks-behind, quoted-finds, quoted-rest, run-begins, word-finds, word-none}
 
 -- what stands behind a colon and is no text of a foreign tag
 abbrev pub read_marks : ValueShape → List Mark → Answer Content

@@ -1,17 +1,17 @@
 -- Blanks, words and quoted texts: what the readers find is there, and what is there they find.
-use Rattle.std.proofs.Common.{◌≡◌, ℕ, zero, suc, ◌<◌, ◌==◌, Bool, true, false, not, cond, List, [], ◌∷◌, ◌++◌, Option, Some, None, Result, Ok, Err, length, refl, sym, ap, subst, ◌∙◌, ◌⊎◌, inl, inr, ⊎_elim, arith}
+use Rattle.std.proofs.Common.{◌≡◌, ℕ, zero, suc, ◌<◌, ◌==◌, Bool, true, false, cond, List, [], ◌∷◌, ◌++◌, Option, Some, None, Ok, Err, length, refl, sym, ap, subst, ◌∙◌, ⊎_elim, arith}
 use Rattle.std.specs.List.{AllPass}
 use Rattle.std.specs.Option.{option_map}
 use Rattle.std.proofs.lemmas.Bool.{eqb-true, ne_eqb}
 use Rattle.std.proofs.lemmas.List.{append_assoc, append-nil, nil_from_length}
 use Rattle.obo_clause.specs.declared.line.SyntaxKind.{SyntaxKind}
 use Rattle.obo_clause.specs.declared.line.SyntaxKind.TheVariants as syntax
-use Rattle.obo_clause.specs.Faults.{HasNoWord, HasWord, IsBehindBlanks, IsBehindWord, Stops, WantsQuoted, Wrong, is_quote}
+use Rattle.obo_clause.specs.Faults.{HasNoWord, HasWord, IsBehindBlanks, Stops, WantsQuoted, Wrong, is_quote}
 use Rattle.obo_clause.specs.Grammar.{AreBlanks, IsQuoted, IsWord}
 use Rattle.obo_clause.specs.Marks.{Mark, bare, read_as}
 use Rattle.obo_clause.specs.Reading.{Answer, behind, behind_blanks, behind_sign, end_of_quotes, front, inside_quotes, next, quoted_at, some_run, wanted, word_at}
 use Rattle.obo_clause.specs.Vocabulary.{is_quoted_mark, is_space, is_word_mark, quote}
-use Rattle.obo_clause.proofs.RunLemmas.{behind-none, behind-run, front-none, front-run, pass-nil, run-passes, run-stops, run-whole, stops-run}
+use Rattle.obo_clause.proofs.RunLemmas.{behind-run, front-none, front-run, run-passes, run-stops, run-whole, stops-run}
 use Rattle.obo_clause.proofs.SignLemmas.{behind_sign-found, no_quote, quote_stops, quoted-stop, word-not_space}
 
 -- what is read and the rest

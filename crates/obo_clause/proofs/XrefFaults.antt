@@ -1,18 +1,17 @@
 -- What is wrong with a run of characters behind a colon: nothing with a text; and the faults of an xref.
-use Rattle.std.proofs.Common.{◌≡◌, ℕ, zero, suc, ◌<◌, ◌==◌, Bool, true, false, not, ◌&&◌, ◌||◌, cond, List, [], ◌∷◌, ◌++◌, Option, Some, None, is_some, Result, Ok, Err, length, refl, sym, ap, subst, ◌∙◌, arith, length-append}
+use Rattle.std.proofs.Common.{◌≡◌, ℕ, zero, suc, ◌<◌, ◌==◌, Bool, true, false, ◌||◌, cond, List, [], ◌∷◌, ◌++◌, Option, Some, None, is_some, Ok, Err, length, refl, sym, ap, subst, ◌∙◌, arith}
 use Rattle.std.specs.List.{AllPass}
-use Rattle.std.proofs.lemmas.Bool.{eqb-true, ne_eqb, or_cases, or_left, or_right}
-use Rattle.std.proofs.lemmas.List.{append_assoc, append-nil, nil_from_length}
+use Rattle.std.proofs.lemmas.Bool.{eqb-true, ne_eqb, or_left, or_right}
+use Rattle.std.proofs.lemmas.List.{append_assoc, nil_from_length}
 use Rattle.obo_clause.specs.declared.clause.Qualifier.{Qualifier}
-use Rattle.obo_clause.specs.declared.clause.Value.{Value}
 use Rattle.obo_clause.specs.declared.clause.Value.TheVariants as value
 use Rattle.obo_clause.specs.declared.line.SyntaxKind.{SyntaxKind}
 use Rattle.obo_clause.specs.declared.line.SyntaxKind.TheVariants as syntax
 use Rattle.obo_clause.specs.declared.values.Content.{Content}
-use Rattle.obo_clause.specs.Faults.{IsBehindBlanks, Stops, WantsEnd, WantsXref}
-use Rattle.obo_clause.specs.Grammar.{AreBlanks, IsEnding, IsFree, IsQuoted}
-use Rattle.obo_clause.specs.Marks.{Mark, bare, read_as}
-use Rattle.obo_clause.specs.Reading.{Answer, behind_blanks, behind_sign, end_of_quotes, ending_at, found, free_run, inside_quotes, next, quoted_at, stops_run, trim_end, wanted}
+use Rattle.obo_clause.specs.Faults.{IsBehindBlanks, WantsXref}
+use Rattle.obo_clause.specs.Grammar.{AreBlanks, IsFree}
+use Rattle.obo_clause.specs.Marks.{Mark, read_as}
+use Rattle.obo_clause.specs.Reading.{Answer, behind_blanks, behind_sign, ending_at, found, free_run, inside_quotes, next, quoted_at, stops_run, trim_end, wanted}
 use Rattle.obo_clause.specs.ReadingLines.{content, ended, labelled, read_text, read_xref, xref}
 use Rattle.obo_clause.specs.Vocabulary.{is_quoted_mark, is_space, quote}
 use Rattle.obo_clause.proofs.EndingLemmas.{ending-finds, ending-found}
@@ -21,7 +20,7 @@ use Rattle.obo_clause.proofs.RunLemmas.{pass-head, pass-nil}
 use Rattle.obo_clause.proofs.RunningText.{free-finds, text-read}
 use Rattle.obo_clause.proofs.SignLemmas.{behind_sign-found}
 use Rattle.obo_clause.proofs.TailLemmas.{WentWrong, ended-fails, ended-refuses, not-on, on-with, went-wrong}
-use Rattle.obo_clause.proofs.WordLemmas.{HasQuoted, Two, blanks-at, blanks-of, inside-missing, inside-none, quoted-endless, quoted-fails, quoted-finds, quoted-found, quoted-is, quoted-rest, quoted_marks, wanted-missing}
+use Rattle.obo_clause.proofs.WordLemmas.{Two, blanks-at, blanks-of, inside-missing, quoted-endless, quoted-finds, quoted-found, quoted-is, quoted-rest, quoted_marks, wanted-missing}
 
 none-some : (o : Option (List Qualifier)) → is_some o ≡ true → o ≡ None → ⊥
 none-some (Some one) some e = cc

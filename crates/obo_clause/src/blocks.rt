@@ -35,8 +35,8 @@ fn field_at(marks: &[Mark]) -> Option<Field<'_>>
     }
 }
 
-/// The value of a qualifier behind its key. Without quotes it ends at a `{` or `"` too, so that no part of a line is looked
-/// at again and again; neither may follow it.
+/// The value of a qualifier behind its key. Without quotes it ends at a `{` or `"` too, so that no part of a line is
+/// looked at again and again; neither may follow it.
 fn field_value<'a>(key: &'a [Mark], marks: &'a [Mark]) -> Option<Field<'a>>
     ensures { MatchOption result
         (read.field_value key.now marks.now ≡ None)
@@ -119,7 +119,8 @@ fn block_end(qualifiers: Vec<Qualifier>, marks: &[Mark]) -> Option<(Items<Qualif
     }
 }
 
-/// The qualifiers of the ending, if the marks are one. It looks no further than the next `{` that stands outside quotes.
+/// The qualifiers of the ending, if the marks are one. It looks no further than the next `{` that stands outside
+/// quotes.
 #[tactic(auto, unfolding(crate::specs::Reading::ending_at))]
 pub fn ending_at(alloc: Global, marks: &[Mark]) -> Result<Option<Items<Qualifier>>, NoMemory>
     ensures { IfOk result (λ found. found ≡ read.ending_at marks.now) }

@@ -59,15 +59,15 @@ fn label_at<'a>(id: &'a [Mark], marks: &'a [Mark]) -> Result<Slot<'a>, SyntaxKin
 fn push_xref(
     alloc: Global,
     xrefs: &mut Vec<Xref>,
-    id: &[Mark],
+    entry: &[Mark],
     label: Option<&[Mark]>,
 ) -> Result<(), NoMemory>
-    ensures { OnOk result (xrefs.new.items ≡ xrefs.old.items ++ read.xrefs_of id.now (option_copied label.entry)) }
+    ensures { OnOk result (xrefs.new.items ≡ xrefs.old.items ++ read.xrefs_of entry.now (option_copied label.entry)) }
 {
-    if id.is_empty() {
+    if entry.is_empty() {
         return Ok(());
     }
-    let id = text_of(alloc, id)?;
+    let id = text_of(alloc, entry)?;
     let label = label_of(alloc, label)?;
     xrefs.push(Xref { id, label })?;
     Ok(())

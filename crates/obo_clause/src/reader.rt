@@ -16,8 +16,8 @@ use obo_tags::{FrameKind, ValueShape, shape, tag_of};
 use rel_io::Bytes;
 use std::alloc::Global;
 
-/// What the line says in a frame of the kind, or the first thing that is wrong with it. `first` says that the frame has no
-/// clause before this line. It takes time in proportion to the line.
+/// What the line says in a frame of the kind, or the first thing that is wrong with it. `first` says that the frame has
+/// no clause before this line. It takes time in proportion to the line.
 pub fn read_line(
     alloc: Global,
     kind: FrameKind,

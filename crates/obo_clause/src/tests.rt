@@ -5,9 +5,9 @@ use rel_io::{Bytes, Dup, NoMemory};
 use std::alloc::Global;
 use std::test::Fail;
 
-/// A line in its frame, and the answer to it, as `show` writes it. Two signs say where the line stands: H in the header,
-/// T in a Term, Y in a Typedef, I in an Instance, and `+` as the first clause of its frame, `-` later. A `~` stands for a
-/// tab, a `^` for LF.
+/// A line in its frame, and the answer to it, as `show` writes it. Two signs say where the line stands: H in the
+/// header, T in a Term, Y in a Typedef, I in an Instance, and `+` as the first clause of its frame, `-` later. A `~`
+/// stands for a tab, a `^` for LF.
 const LINES: &str = r#"T- name: a \{b\} {x=1, y="2"} ! c => name Text <a {b}> {<x>=<1><y>=<2>}
 T- name: a {b => name Text <a {b>
 T- name: => name Text <>
@@ -40,7 +40,7 @@ T- name: a {,x=1} => name Text <a {,x=1}>
 T- name: a { x = 1 , y = "2" } => name Text <a> {<x>=<1><y>=<2>}
 T- name: a {~x~=~1~,~y~=~"2"~}~! => name Text <a> {<x>=<1><y>=<2>}
 T- name: a {x=1 2} => name Text <a> {<x>=<1 2>}
-T- name: a {x=\W1\W} => name Text <a> {<x>=< 1 >}
+T- name: a {x=\Wb\W} => name Text <a> {<x>=< b >}
 T- name: a {x=a\}b} => name Text <a> {<x>=<a}b>}
 T- name: a {x=a\,b} => name Text <a> {<x>=<a,b>}
 T- name: a {x=a=b!c[d]:e} => name Text <a> {<x>=<a=b!c[d]:e>}
