@@ -28,3 +28,7 @@ pub record IsSpelledIn (kind : FrameKind) (clause : Clause) : Type 0 where
 pub record IsSpelled (clause : Clause) : Type 0 where
   pub kind : FrameKind
   pub spelled : IsSpelledIn kind clause
+
+-- the same as a mere fact: which line spells the clause, and how, is not remembered
+abbrev pub CanBeSpelled : Clause → Type 0
+CanBeSpelled clause = ∥ IsSpelled clause ∥₁

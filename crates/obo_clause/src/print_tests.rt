@@ -1,6 +1,6 @@
 //! Clauses with the lines that are printed of them, worked out by hand.
 ghost use Rattle.std.specs.Prelude.{IfOk};
-ghost use Rattle.obo_clause.specs.Spelled.{IsSpelled};
+ghost use Rattle.obo_clause.specs.Spelled.{CanBeSpelled};
 
 use crate::printer::clause_text;
 use crate::{Clause, Qualifier, Scope, Value, Xref, print_clause};
@@ -223,7 +223,7 @@ fn first_xref(xrefs: Items<Xref>) -> Option<Value> {
 
 /// A clause that a line of a Term spells.
 fn example(alloc: Global) -> Result<Clause, NoMemory>
-    ensures { IfOk result IsSpelled }
+    ensures { IfOk result CanBeSpelled }
 {
     let tag = Bytes::from_vec(Vec::from_slice(alloc, b"name")?);
     let text = Bytes::from_vec(Vec::from_slice(alloc, b"a {b}")?);

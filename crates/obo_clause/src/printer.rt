@@ -3,7 +3,7 @@ ghost use Rattle.std.specs.Prelude.{◌≡◌, ◌++◌, IfOk, OnErr, OnOk, code
 ghost use Rattle.std.specs.List.{flat_map};
 ghost use Rattle.obo_clause.specs.PrintLaws.{SpellsAgain};
 ghost use Rattle.obo_clause.specs.Printing as spec;
-ghost use Rattle.obo_clause.specs.Spelled.{IsSpelled};
+ghost use Rattle.obo_clause.specs.Spelled.{CanBeSpelled};
 ghost use Rattle.obo_clause.specs.Spelling.{bool_word, scope_word};
 
 use crate::{Clause, Qualifier, Scope, Value, Xref};
@@ -13,7 +13,7 @@ use std::alloc::Global;
 /// Appends the line of a clause, without its end. The line is made whole before, so that `out` stays as it was where no
 /// memory is left. It takes time in proportion to the line.
 pub fn print_clause(alloc: Global, clause: &Clause, out: &mut Vec<u8>) -> Result<(), NoMemory>
-    requires spelled { IsSpelled clause.now }
+    requires spelled { CanBeSpelled clause.now }
     ensures text { OnOk result (out.new.items ≡ out.old.items ++ spec.clause_text clause.now) }
     ensures line { OnOk result (SpellsAgain clause.now) }
     ensures unchanged { OnErr result (out.new.items ≡ out.old.items) }

@@ -69,4 +69,4 @@ returns c =
     let value : c.from_vec-value.result ≡ codes "1" = c.from_vec-value.ensures ∙ c.in_ok-from_slice-4.ensures.items in
     let qualifiers : c.from_vec-qualifiers.result ≡ qualifier_of c.from_vec-key.result c.from_vec-value.result ∷ [] =
     c.from_vec-qualifiers.ensures ∙ c.in_ok-push.ensures.items ∙ ap (λ l. l ++ qualifier_of c.from_vec-key.result c.from_vec-value.result ∷ []) c.new-qualifiers.ensures.items in
-    spelled_at _ _ _ _ _ tag text key value qualifiers
+    ∣ spelled_at _ _ _ _ _ tag text key value qualifiers ∣₁
