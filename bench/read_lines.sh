@@ -7,10 +7,10 @@ top=$(cd "$(dirname "$0")/.." && pwd)
 copy=$(mktemp -d)
 trap 'rm -rf "$copy"' EXIT
 mkdir -p "$copy/crates/read_lines"
-for crate in rel_io obo_tags obo_lexer obo_clause; do cp -a "$top/crates/$crate" "$copy/crates/"; done
+for crate in rel_io obo_tags obo_lexer obo_clause clause_reader; do cp -a "$top/crates/$crate" "$copy/crates/"; done
 cp "$top/HANDLES" "$copy/"
-grep -E '^(rel_io|obo_tags|obo_lexer|obo_clause):' "$top/crates.txt" > "$copy/crates.txt"
-echo 'read_lines: rel_io obo_tags obo_clause' >> "$copy/crates.txt"
+grep -E '^(rel_io|obo_tags|obo_lexer|obo_clause|clause_reader):' "$top/crates.txt" > "$copy/crates.txt"
+echo 'read_lines: rel_io obo_tags obo_clause clause_reader' >> "$copy/crates.txt"
 cd "$copy/crates/read_lines"
 mkdir -p src specs proofs
 touch specs/Lib.antt proofs/Lib.antt
@@ -18,7 +18,8 @@ touch specs/Lib.antt proofs/Lib.antt
 cat > src/main.rt <<'END'
 //! Reads hostile lines, and prints how long it takes.
 #![tactic(auto)]
-use obo_clause::{Line, read_line};
+use clause_reader::read_line;
+use obo_clause::Line;
 use obo_tags::FrameKind;
 use rel_io::{Bytes, NoMemory};
 use std::alloc::Global;

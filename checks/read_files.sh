@@ -15,7 +15,7 @@ folder=$(cd "$1" && pwd)
 top=$(cd "$(dirname "$0")/.." && pwd)
 copy=$(mktemp -d)
 trap 'rm -rf "$copy"' EXIT
-below='rel_io iri_map obo_tags obo_lexer obo_clause obo_frames'
+below='rel_io iri_map obo_tags obo_lexer obo_clause clause_reader obo_frames'
 mkdir -p "$copy/crates/read_files"
 for crate in $below; do cp -a "$top/crates/$crate" "$copy/crates/"; done
 cp "$top/HANDLES" "$copy/"

@@ -1,7 +1,6 @@
 -- The answer to a line is what it says, or what is wrong with it; and from this the laws of lines.
 use Rattle.std.proofs.Common.{◌≡◌, ℕ, ◌==◌, Bool, true, false, ◌||◌, cond, List, [], ◌∷◌, ◌++◌, codes, Option, Some, None, Result, Ok, Err, refl, sym, ap, subst, ◌∙◌, inl, inr}
 use Rattle.std.specs.List.{AllPass}
-use Rattle.std.specs.Result.{IfErr, IfOk}
 use Rattle.std.proofs.lemmas.Bool.{eqb-true, false≢true, or_parts}
 use Rattle.std.proofs.lemmas.List.{append_assoc}
 use Rattle.std.proofs.lemmas.List.Elements.{All-weaker}
@@ -9,14 +8,11 @@ use Rattle.obo_lexer.specs.Tokens.{is_blank}
 use Rattle.obo_tags.specs.declared.kind.FrameKind.{FrameKind}
 use Rattle.obo_clause.specs.declared.line.Line.{Line}
 use Rattle.obo_clause.specs.declared.line.Line.TheVariants as says
-use Rattle.obo_clause.specs.declared.line.LineFault.{LineFault}
-use Rattle.obo_clause.specs.declared.line.LineFault.TheVariants as fault
 use Rattle.obo_clause.specs.declared.line.SyntaxKind.{SyntaxKind}
 use Rattle.obo_clause.specs.declared.line.SyntaxKind.TheVariants as syntax
-use Rattle.obo_clause.specs.Answers.{AnswersWhatFails, AnswersWhatIsSaid, IsFaultOf}
 use Rattle.obo_clause.specs.Faults.{Fails, IsClauseLine, Stops}
 use Rattle.obo_clause.specs.Laws.{FailsOneWay, HasAnswer, NeverSaysAndFails, SaysOneThing, SpellsOneClause}
-use Rattle.obo_clause.specs.Reading.{Answer, Gives, behind, front, next, trim_end, wanted}
+use Rattle.obo_clause.specs.Reading.{Answer, behind, front, next, trim_end, wanted}
 use Rattle.obo_clause.specs.ReadingLines.{answer_to, at_colon, is_before_colon, is_tag, read_clause, read_frame, read_tagged, read_trimmed}
 use Rattle.obo_clause.specs.Spelling.{IsFrameLine, IsLineComment, IsTagged, Says}
 use Rattle.obo_clause.specs.Vocabulary.{is_one_of}
@@ -201,29 +197,3 @@ module _ (kind : FrameKind) (first : Bool) where
 
     pub has-answer : HasAnswer kind first line
     has-answer = answer-step (answer_to kind first line) refl
-
-    -- ---- the contract of the reader
-
-    pub gives-says : (result : Result Line LineFault) → Gives (answer_to kind first line) result → IfOk result (Says kind first line)
-    gives-says (Ok said) gives = answer-is-said line said gives
-    gives-says (Err f) gives = tt
-
-    pub gives-faults : (result : Result Line LineFault) → Gives (answer_to kind first line) result → IfErr result (IsFaultOf kind first line)
-    gives-faults (Ok said) gives = tt
-    gives-faults (Err (fault.Syntax one)) gives = answer-is-fault line one gives
-    gives-faults (Err fault.NoMemory) gives = tt
-
-    pub gives-said : (result : Result Line LineFault) → Gives (answer_to kind first line) result → AnswersWhatIsSaid kind first line result
-    gives-said (Ok one) gives said is =
-        let same = same-ok one said (sym gives ∙ said-is-answer line said is) in inl (ap Ok same)
-    gives-said (Err (fault.Syntax one)) gives said is =
-        let both : Ok said ≡ Err one = sym (said-is-answer line said is) ∙ gives in cc
-    gives-said (Err fault.NoMemory) gives said is = inr refl
-
-    pub gives-failed : (result : Result Line LineFault) → Gives (answer_to kind first line) result → AnswersWhatFails kind first line result
-    gives-failed (Ok said) gives one is =
-        let both : Ok said ≡ Err one = sym gives ∙ fault-is-answer line one is in cc
-    gives-failed (Err (fault.Syntax two)) gives one is =
-        let same : ◌≡◌ {A = Answer Line} (Err two) (Err one) = sym gives ∙ fault-is-answer line one is in
-        let one_way : two ≡ one = cc in inl (ap (λ k. Err (fault.Syntax k)) one_way)
-    gives-failed (Err fault.NoMemory) gives one is = inr refl

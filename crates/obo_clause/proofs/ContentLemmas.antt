@@ -9,7 +9,7 @@ use Rattle.obo_clause.specs.declared.clause.Qualifier.{Qualifier}
 use Rattle.obo_clause.specs.declared.clause.Value.{Value}
 use Rattle.obo_clause.specs.declared.clause.Value.TheVariants as value
 use Rattle.obo_clause.specs.declared.line.SyntaxKind.{SyntaxKind}
-use Rattle.obo_clause.specs.declared.values.Content.{Content}
+use Rattle.obo_clause.specs.declared.clause.Content.{Content}
 use Rattle.obo_clause.specs.Faults.{ValueFails}
 use Rattle.obo_clause.specs.Grammar.{IsTrimmed}
 use Rattle.obo_clause.specs.Marks.{Mark, marks_of}

@@ -6,7 +6,7 @@ use Rattle.obo_clause.specs.declared.clause.Scope.TheVariants as scope
 use Rattle.obo_clause.specs.declared.clause.Value.TheVariants as value
 use Rattle.obo_clause.specs.declared.line.SyntaxKind.{SyntaxKind}
 use Rattle.obo_clause.specs.declared.line.SyntaxKind.TheVariants as syntax
-use Rattle.obo_clause.specs.declared.values.Content.{Content}
+use Rattle.obo_clause.specs.declared.clause.Content.{Content}
 use Rattle.obo_clause.specs.Faults.{IsBehindBlanks, MayBeScope, MayHaveList, MayHaveScope, MayHaveWord, Stops, WantsEnd, WantsObject, WantsQuoted, WantsTruth, WantsWord, Wrong}
 use Rattle.obo_clause.specs.Marks.{Mark, read_as}
 use Rattle.obo_clause.specs.Reading.{Answer, behind_blanks, behind_sign, found, list_at, next, quoted_at, wanted, word_at}

@@ -13,7 +13,7 @@ use Rattle.obo_clause.specs.declared.line.Line.{Line}
 use Rattle.obo_clause.specs.declared.line.Line.TheVariants as says
 use Rattle.obo_clause.specs.declared.line.SyntaxKind.{SyntaxKind}
 use Rattle.obo_clause.specs.declared.line.SyntaxKind.TheVariants as syntax
-use Rattle.obo_clause.specs.declared.values.Content.{Content}
+use Rattle.obo_clause.specs.declared.clause.Content.{Content}
 use Rattle.obo_clause.specs.Faults.{Fails, Stops, ValueFails}
 use Rattle.obo_clause.specs.Marks.{marks_of}
 use Rattle.obo_clause.specs.Reading.{Answer, behind, found, front, trim_end, wanted}

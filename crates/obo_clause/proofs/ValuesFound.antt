@@ -11,7 +11,7 @@ use Rattle.obo_clause.specs.declared.clause.Scope.TheVariants as scope
 use Rattle.obo_clause.specs.declared.clause.Value.{Value}
 use Rattle.obo_clause.specs.declared.clause.Value.TheVariants as value
 use Rattle.obo_clause.specs.declared.line.SyntaxKind.TheVariants as syntax
-use Rattle.obo_clause.specs.declared.values.Content.{Content}
+use Rattle.obo_clause.specs.declared.clause.Content.{Content}
 use Rattle.obo_clause.specs.Faults.{Stops}
 use Rattle.obo_clause.specs.Grammar.{AreBlanks, IsEnding, IsFree}
 use Rattle.obo_clause.specs.Marks.{Mark, read_as}

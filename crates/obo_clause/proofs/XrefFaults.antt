@@ -7,7 +7,7 @@ use Rattle.obo_clause.specs.declared.clause.Qualifier.{Qualifier}
 use Rattle.obo_clause.specs.declared.clause.Value.TheVariants as value
 use Rattle.obo_clause.specs.declared.line.SyntaxKind.{SyntaxKind}
 use Rattle.obo_clause.specs.declared.line.SyntaxKind.TheVariants as syntax
-use Rattle.obo_clause.specs.declared.values.Content.{Content}
+use Rattle.obo_clause.specs.declared.clause.Content.{Content}
 use Rattle.obo_clause.specs.Faults.{IsBehindBlanks, WantsXref}
 use Rattle.obo_clause.specs.Grammar.{AreBlanks, IsFree}
 use Rattle.obo_clause.specs.Marks.{Mark, read_as}

@@ -1,10 +1,7 @@
-pub mod Answers
 pub mod Faults
 pub mod Grammar
 pub mod Laws
 pub mod Marks
-pub mod PrintLaws
-pub mod Printing
 pub mod Reading
 pub mod ReadingLines
 pub mod Spelled

@@ -1,7 +1,7 @@
 -- The marks of a text: its bytes as they are read, each with whether a backslash stood before it. What stands behind a
 -- tag is made of marks, so that an escaped byte is never taken for a sign (OBO Flat File Format 1.4, escape characters).
 use Rattle.std.specs.Prelude.{ℕ, ◌==◌, false, true, if◌then◌else◌, List, [], ◌∷◌, map}
-pub use Rattle.obo_clause.specs.declared.marks.Mark.{Mark}
+pub use Rattle.obo_clause.specs.declared.mark.Mark.{Mark}
 
 -- a byte that stands by itself
 abbrev pub bare : ℕ → Mark

@@ -10,8 +10,6 @@ use Rattle.obo_clause.specs.declared.line.LineFault.{LineFault}
 use Rattle.obo_clause.specs.declared.line.LineFault.TheVariants as fault
 use Rattle.obo_clause.specs.declared.line.SyntaxKind.{SyntaxKind}
 use Rattle.obo_clause.specs.declared.line.SyntaxKind.TheVariants as syntax
-use Rattle.obo_clause.specs.declared.marks.Class.{Class}
-use Rattle.obo_clause.specs.declared.marks.Class.TheVariants as class
 use Rattle.obo_clause.specs.Marks.{Mark, read_as}
 use Rattle.obo_clause.specs.Vocabulary.{is_entry_mark, is_key_mark, is_quoted_mark, is_space, is_unquoted_mark, is_word_mark}
 
@@ -33,32 +31,6 @@ wanted one (Some found) = Ok found
 abbrev pub found : {A B : Type 0} → Option A → B → (A → B) → B
 found None other go_on = other
 found (Some one) other go_on = go_on one
-
--- the answer is this one, but for want of memory
-abbrev pub Gives : {A : Type 0} → Answer A → Result A LineFault → Type 0
-Gives answer (Ok one) = answer ≡ Ok one
-Gives answer (Err (fault.Syntax one)) = answer ≡ Err one
-Gives answer (Err fault.NoMemory) = Unit {0}
-
--- the answer is this one, with a list that is lent, but for want of memory
-abbrev pub GivesWith : {A : Type 0} → Answer (A × List Mark) → Result (A × Bor (List Mark)) LineFault → Type 0
-GivesWith answer (Ok one) = answer ≡ Ok (one.0, one.1.now)
-GivesWith answer (Err (fault.Syntax one)) = answer ≡ Err one
-GivesWith answer (Err fault.NoMemory) = Unit {0}
-
--- this is found, with a list that is lent
-abbrev pub FindsWith : {A : Type 0} → Option (A × List Mark) → Option (A × Bor (List Mark)) → Type 0
-FindsWith answer None = answer ≡ None
-FindsWith answer (Some one) = answer ≡ Some (one.0, one.1.now)
-
--- the marks of a class
-abbrev pub in_class : Class → Mark → Bool
-in_class class.Space = is_space
-in_class class.Word = is_word_mark
-in_class class.Quoted = is_quoted_mark
-in_class class.Entry = is_entry_mark
-in_class class.Key = is_key_mark
-in_class class.Unquoted = is_unquoted_mark
 
 -- the longest front of what passes, and what stands behind it
 abbrev pub front : {A : Type 0} → (A → Bool) → List A → List A

@@ -19,7 +19,7 @@ use Rattle.obo_clause.specs.declared.clause.Xref.{Xref}
 use Rattle.obo_clause.specs.declared.line.Line.{Line}
 use Rattle.obo_clause.specs.declared.line.Line.TheVariants as says
 use Rattle.obo_clause.specs.declared.line.SyntaxKind.TheVariants as syntax
-use Rattle.obo_clause.specs.declared.values.Content.{Content}
+use Rattle.obo_clause.specs.declared.clause.Content.{Content}
 use Rattle.obo_clause.specs.Marks.{Mark, marks_of, read_as}
 use Rattle.obo_clause.specs.Reading.{Answer, behind, behind_blanks, behind_sign, end_at, ending_at, found, free_run, front, list_at, next, quoted_at, trim, trim_end, wanted, word_at}
 use Rattle.obo_clause.specs.Spelling.{scope_word, shape_at, text_datatype}
@@ -209,10 +209,6 @@ abbrev pub around_colon : List ℕ → List ℕ → Option (List ℕ × List ℕ
 around_colon before [] = None
 around_colon before (colon ∷ bytes) = Some (before, bytes)
 
--- the texts that two lent parts are
-abbrev pub parts_lent : Option (Bor (List ℕ) × Bor (List ℕ)) → Option (List ℕ × List ℕ)
-parts_lent lent = option_map (λ (parts : Bor (List ℕ) × Bor (List ℕ)). (parts.0.now, parts.1.now)) lent
-
 -- the parts before and behind the first colon
 unfoldable pub at_colon : List ℕ → Option (List ℕ × List ℕ)
 at_colon bytes = around_colon (front is_before_colon bytes) (behind is_before_colon bytes)
@@ -233,11 +229,6 @@ is_line_comment (byte ∷ bytes) = byte == 33
 abbrev pub behind_start : List ℕ → List ℕ → Option (List ℕ)
 behind_start start bytes =
     if starts_with nat_eq bytes start then Some (drop (length start) bytes) else None
-
--- this is found, with bytes that are lent
-abbrev pub FindsBytes : {A : Type 0} → Option (A × List ℕ) → Option (A × Bor (List ℕ)) → Type 0
-FindsBytes answer None = answer ≡ None
-FindsBytes answer (Some one) = answer ≡ Some (one.0, one.1.now)
 
 -- a name of a frame kind and what stands behind its `]`
 abbrev pub Named : Type 0

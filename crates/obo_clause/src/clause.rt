@@ -94,6 +94,15 @@ pub struct Clause {
     pub qualifiers: Items<Qualifier>,
 }
 
+/// What stands behind the tag of a clause.
+#[derive(Debug, PartialEq, Eq, Drop)]
+pub struct Content {
+    /// The value, in the shape of the tag.
+    pub value: Value,
+    /// The trailing qualifiers, in the order of the line.
+    pub qualifiers: Items<Qualifier>,
+}
+
 impl Dup for Scope {
     fn copy(&self, _alloc: Global) -> Result<Scope, NoMemory> {
         Ok(*self)

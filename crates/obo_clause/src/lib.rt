@@ -1,31 +1,16 @@
 //! What a line of an OBO file says: it is blank, begins a frame, or spells one clause; and where it is none of these,
-//! the one fault that is met first from left to right. The layer above reads documents by this alone, and a
-//! clause that was read is printed as a line that spells it again.
+//! the one fault that is met first from left to right. The types and definitions stand here, with the laws that follow
+//! from them; the crates above read lines and print clauses by them.
 #![tactic(auto)]
 
-mod blocks;
-mod bytes;
 mod clause;
 mod laws;
 mod line;
-mod lists;
-mod marks;
-mod print_laws;
-#[cfg(test)]
-mod print_tests;
-mod printer;
-mod reader;
-mod runs;
-mod scopes;
-#[cfg(test)]
-mod tests;
-mod values;
+mod mark;
 
-pub use clause::{Clause, Qualifier, Scope, Value, Xref};
+pub use clause::{Clause, Content, Qualifier, Scope, Value, Xref};
 pub use laws::{
     line_fails_one_way, line_has_answer, line_never_says_and_fails, line_says_one_thing,
 };
 pub use line::{Line, LineFault, SyntaxKind};
-pub use print_laws::{printed_line_spells_again, spelled_clauses_fit};
-pub use printer::print_clause;
-pub use reader::read_line;
+pub use mark::Mark;

@@ -13,7 +13,7 @@ use Rattle.obo_tags.specs.declared.kind.FrameKind.TheVariants as kinds
 use Rattle.obo_tags.specs.declared.kind.ValueShape.{ValueShape}
 use Rattle.obo_tags.specs.declared.kind.ValueShape.TheVariants as shapes
 use Rattle.obo_clause.specs.Grammar.{IsEnding, IsWord, bare as bare_ending, nothing as no_comment, qualified}
-use Rattle.obo_clause.specs.declared.marks.Mark.{Mark}
+use Rattle.obo_clause.specs.declared.mark.Mark.{Mark}
 use Rattle.obo_clause.specs.Marks.{bare, escaped, marks_of}
 use Rattle.obo_clause.specs.Spelled.{IsLine, IsSpelledAs}
 use Rattle.obo_clause.specs.Spelling.{IsContent, IsKindName, IsValue, Says, Spells, blank, class, content, definition, frame, id, instance, link, literal, pair, raw, restriction, shape_at, shaped, subset, synonym, synonym_type, term, text, truth, typedef, xref}

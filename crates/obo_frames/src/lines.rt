@@ -7,7 +7,8 @@ ghost use Rattle.obo_frames.specs.Reading.{AnswersItem, AnswersItemFailure, HasN
 use crate::DocFault;
 use crate::standing::{Draft, empty_draft, placed_more};
 use crate::told::{Place, Told, behind, start};
-use obo_clause::{LineFault, read_line};
+use clause_reader::read_line;
+use obo_clause::LineFault;
 use obo_lexer::{LineBody, LineFeeder, LineItem};
 use rel_io::NoMemory;
 use std::alloc::Global;

@@ -7,7 +7,7 @@ use denote.Enum.Compared.{Each, by}
 use denote.Enum.Declared.{Choice}
 use denote.Struct.Field.{Field}
 use denote.Struct.Values.{Values}
-use Rattle.owl_axioms.specs.Ontology.{same_axiom}
+use Rattle.owl_axioms.specs.Same.{same_axiom}
 use Rattle.owl_axioms.specs.contracts.annotation.NoteValue as value
 use Rattle.owl_axioms.specs.contracts.annotation.NoteValuePartialEq.TheImpl as value_eq
 use Rattle.owl_axioms.specs.contracts.annotation.SidePartialEq.TheImpl as side_eq

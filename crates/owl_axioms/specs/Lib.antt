@@ -1,4 +1,3 @@
-pub mod Ontology
-pub mod Origins
 pub mod Proper
+pub mod Same
 pub mod Text

@@ -1,21 +1,10 @@
-//! What the definitions say of one another, proved.
-ghost use Rattle.std.specs.Prelude.{[], Some, ◌++◌, ◌∷◌, ◌↔◌, ◌≡◌, IsTrue, slice_get, ℕ};
-ghost use Rattle.owl_axioms.specs.Ontology.{Entry, IsHeld, add_entry, entry_of, same_axiom};
-ghost use Rattle.owl_axioms.specs.Origins.{lesser};
+//! What the definitions of axioms amount to. Each law is the contract of a function that does nothing.
+ghost use Rattle.std.specs.Prelude.{◌↔◌, ◌≡◌, IsTrue};
+ghost use Rattle.owl_axioms.specs.Same.{same_axiom};
 
-use crate::{Axiom, Ontology, Origin};
+use crate::Axiom;
 
 /// `==` answers true of an axiom and itself, and of no other two: it looks at the body and at all annotations.
 pub fn equality_is_sameness(one: &Axiom, other: &Axiom)
     ensures { IsTrue (same_axiom one.now other.now) ↔ (one.now ≡ other.now) }
 {}
-
-/// One axiom more, as it is defined, comes last where no entry has it; where one has it, it keeps its place and
-/// the lesser origin; and each other entry stays.
-pub fn adding_keeps_the_lesser_origin(ontology: &Ontology, added: &Axiom, origin: &Origin)
-    ensures new { ¬ (IsHeld added.now ontology.now.entries) → add_entry added.now origin.now ontology.now.entries ≡ ontology.now.entries ++ entry_of added.now origin.now ∷ [] }
-    ensures held { (at : ℕ) (e : Entry) → slice_get ontology.now.entries at ≡ Some e → e.axiom ≡ added.now → slice_get (add_entry added.now origin.now ontology.now.entries) at ≡ Some (entry_of added.now (lesser origin.now e.origin)) }
-    ensures other { (at : ℕ) (e : Entry) → slice_get ontology.now.entries at ≡ Some e → ¬ (e.axiom ≡ added.now) → slice_get (add_entry added.now origin.now ontology.now.entries) at ≡ Some e }
-{
-    let _different = ontology.len();
-}

@@ -1,5 +1,5 @@
 //! `Iri`: the name of an entity on the web, seen as the list of its bytes.
-ghost use Rattle.std.specs.Prelude.{◌≡◌, nat_eq, refl};
+ghost use Rattle.std.specs.Prelude.{◌≡◌, IfOk, nat_eq, refl};
 ghost use Rattle.std.specs.Cmp.{partial_equiv_from_equiv};
 ghost use Rattle.std.specs.Cmp.Lexicographic.{pointwise, slice_cmp, texts_po, texts_ties};
 ghost use Rattle.std.specs.Cmp.Rules.{hashing};
@@ -37,6 +37,14 @@ impl Iri {
         Iri { items }
     }
 
+    /// The bytes of a slice, copied.
+    pub fn from_slice(alloc: Global, bytes: &[u8]) -> Result<Iri, NoMemory>
+        ensures { IfOk result (λ copied. copied ≡ bytes.now) }
+    {
+        let items = Vec::from_slice(alloc, bytes)?;
+        Ok(Iri { items })
+    }
+
     /// Gives the bytes back, without memory.
     pub fn into_vec(self) -> Vec<u8>
         ensures { result.items ≡ self }
@@ -55,8 +63,7 @@ impl Iri {
 
 impl Dup for Iri {
     fn copy(&self, alloc: Global) -> Result<Iri, NoMemory> {
-        let items = Vec::from_slice(alloc, self.items.as_slice())?;
-        Ok(Iri { items })
+        Iri::from_slice(alloc, self.items.as_slice())
     }
 }
 

@@ -10,11 +10,11 @@ use Rattle.obo_frames.specs.Answer.{AnswersIt, document_of}
 use Rattle.obo_frames.specs.declared.fault.DocFault.{DocFault}
 use Rattle.obo_frames.specs.declared.fault.DocFault.TheVariants as doc
 use Rattle.obo_frames.specs.declared.placed.Placed.{Placed}
-use Rattle.release_chain.specs.Built.{unbuilt_line}
+use Rattle.term_frames.specs.Built.{unbuilt_line}
 use Rattle.release_chain.specs.Ending.{Ends, Runs, fault_of_input}
-use Rattle.release_chain.specs.Lines.{Line, lines_of}
-use Rattle.release_chain.specs.Mapping.{ontology_of}
-use Rattle.release_chain.specs.Text.{obo_text}
+use Rattle.term_frames.specs.Lines.{Line, lines_of}
+use Rattle.term_frames.specs.Mapping.{ontology_of}
+use Rattle.term_frames.specs.Text.{obo_text}
 use Rattle.release_chain.specs.ReadFile.{ReadsFile}
 use Rattle.release_chain.specs.Release.{EndsAs, StoppedAtOutput, WriteFaultCaused}
 use Rattle.release_chain.specs.Run.{Run, after_outputs, byte_limit, fault_in, line_limit, refuses, run, run_bytes, run_chain, run_document, run_input, run_lines, writes}

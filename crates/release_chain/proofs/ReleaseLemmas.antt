@@ -11,19 +11,19 @@ use Rattle.rel_io.specs.FolderState.{Files, FolderState}
 use Rattle.obo_frames.specs.Answer.{document_of}
 use Rattle.obo_frames.specs.declared.fault.DocFault.{DocFault}
 use Rattle.obo_frames.specs.declared.placed.Placed.{Placed}
-use Rattle.release_chain.specs.Built.{unbuilt_line}
-use Rattle.release_chain.specs.Lines.{Line, lines_of}
+use Rattle.term_frames.specs.Built.{unbuilt_line}
+use Rattle.term_frames.specs.Lines.{Line, lines_of}
 use Rattle.release_chain.specs.Ending.{Ends}
-use Rattle.release_chain.specs.Mapping.{ontology_of}
+use Rattle.term_frames.specs.Mapping.{ontology_of}
 use Rattle.release_chain.specs.Release.{IsReleased}
 use Rattle.release_chain.specs.Run.{Output, Run, after_outputs, byte_limit, line_limit, refuses, run, run_bytes, run_chain, run_document, run_input, run_lines}
-use Rattle.release_chain.specs.Text.{obo_text}
+use Rattle.term_frames.specs.Text.{obo_text}
 use Rattle.release_chain.specs.Words.{Word, chain}
 use Rattle.release_chain.specs.declared.fault.Fault.{Fault}
 use Rattle.release_chain.specs.declared.fault.Fault.TheVariants.{TooManyBytes}
 use Rattle.release_chain.specs.declared.words.Paths.{Paths}
 use Rattle.release_chain.specs.declared.words.WrongWord.{WrongWord}
-use Rattle.release_chain.proofs.EntryLemmas.{first_or_later, none_in_nothing}
+use Rattle.term_frames.proofs.EntryLemmas.{first_or_later, none_in_nothing}
 
 -- a run writes at most one file, the text of its merged ontology
 record IsOnly (r : Run) (output : Output) : Type 0 where

@@ -1,15 +1,6 @@
-pub mod Built
-pub mod Clauses
 pub mod Ending
 pub mod Fault
-pub mod Forms
-pub mod Laws
-pub mod Lines
-pub mod Mapping
-pub mod NameTable
-pub mod Progress
 pub mod ReadFile
 pub mod Release
 pub mod Run
-pub mod Text
 pub mod Words

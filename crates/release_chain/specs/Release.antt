@@ -10,7 +10,7 @@ use Rattle.rel_io.specs.FolderState.{Files, FolderState}
 use Rattle.rel_io.specs.Sink.{SinkState}
 use Rattle.release_chain.specs.Fault.{is_refusal}
 use Rattle.release_chain.specs.Run.{Opening, Output, Run, after_outputs, run}
-use Rattle.release_chain.specs.Text.{obo_text}
+use Rattle.term_frames.specs.Text.{obo_text}
 use Rattle.release_chain.specs.Words.{Word, chain}
 use Rattle.release_chain.specs.declared.fault.Fault.{Fault}
 use Rattle.release_chain.specs.declared.fault.Fault.TheVariants.{BadWord, MissingInput, ReadFault, WriteFault, NoMemory}

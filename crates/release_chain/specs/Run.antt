@@ -7,11 +7,11 @@ use Rattle.obo_frames.specs.Answer.{document_of}
 use Rattle.obo_frames.specs.declared.fault.DocFault.{DocFault}
 use Rattle.obo_frames.specs.declared.fault.DocFault.TheVariants as doc
 use Rattle.obo_frames.specs.declared.placed.Placed.{Placed}
-use Rattle.owl_axioms.specs.Ontology.{OntologyState}
-use Rattle.release_chain.specs.Built.{unbuilt_line}
-use Rattle.release_chain.specs.Lines.{Line, lines_of}
-use Rattle.release_chain.specs.Mapping.{ontology_of}
-use Rattle.release_chain.specs.Text.{obo_text}
+use Rattle.owl_ontology.specs.Ontology.{OntologyState}
+use Rattle.term_frames.specs.Built.{unbuilt_line}
+use Rattle.term_frames.specs.Lines.{Line, lines_of}
+use Rattle.term_frames.specs.Mapping.{ontology_of}
+use Rattle.term_frames.specs.Text.{obo_text}
 use Rattle.release_chain.specs.Words.{Word, chain}
 use Rattle.release_chain.specs.declared.fault.Fault.{Fault}
 use Rattle.release_chain.specs.declared.fault.Fault.TheVariants.{BadWord, MissingInput, TooManyBytes, NotUtf8, LineTooLong, Syntax, NoId, ShortGroup, LineNotBuilt, NoMemory}

@@ -5,13 +5,12 @@ ghost use Rattle.rel_io.specs.FolderState.{NoCountFell};
 ghost use Rattle.release_chain.specs.Ending.{Ends, EndsChain, fault_of_input};
 ghost use Rattle.release_chain.specs.Run.{fault_in};
 
-use crate::reader::{LineFault, read_ontology};
-use crate::text::obo_text;
 use crate::words::{Paths, read_words};
 use crate::{Fault, FileFault, read_file};
 use obo_frames::{DocFault, read_document};
 use rel_io::{Bytes, Dup, Folder, PutFault};
 use std::alloc::Global;
+use term_frames::{TermsFault, obo_text, read_ontology};
 
 /// The most bytes that the files of a chain have together.
 const BYTE_LIMIT: u64 = 268435456;
@@ -42,8 +41,8 @@ fn run_chain<F: Folder>(alloc: Global, paths: &Paths, folder: &mut F) -> Result<
     }
     let ontology = match read_ontology(alloc, bytes.as_slice()) {
         Ok(ontology) => ontology,
-        Err(LineFault::NotBuilt(line)) => return Err(Fault::LineNotBuilt { file: name, line }),
-        Err(LineFault::NoMemory) => return Err(Fault::NoMemory),
+        Err(TermsFault::LineNotBuilt { line }) => return Err(Fault::LineNotBuilt { file: name, line }),
+        Err(TermsFault::NoMemory) => return Err(Fault::NoMemory),
     };
     drop(bytes);
     let text = obo_text(alloc, ontology)?;

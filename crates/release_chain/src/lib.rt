@@ -4,21 +4,13 @@
 #![tactic(auto)]
 
 mod chain;
-mod clause;
 mod fault;
-mod forms;
 mod input;
-mod laws;
-mod lines;
-mod mapping;
 mod program;
-mod reader;
-mod text;
 mod words;
 
 pub use fault::{Ended, Fault, WordKind};
 pub use input::{FileFault, read_file};
-pub use laws::{least_line_is_refused, lines_are_written, text_is_of_set, text_reads_back};
 pub use program::release;
 
 #[cfg(test)]

@@ -1,5 +1,5 @@
 use Rattle.std.proofs.Common.{◌≡◌, true, subst}
-use Rattle.owl_axioms.specs.Ontology.{same_axiom}
+use Rattle.owl_axioms.specs.Same.{same_axiom}
 use Rattle.owl_axioms.specs.contracts.body.AxiomEq.TheImpl.Laws as laws
 use Rattle.owl_axioms.proofs.Same.{same_axiom-true}
 use Rattle.owl_axioms.proofs.laws.equality_is_sameness.Goals as goal

@@ -23,4 +23,4 @@ returns-in-Err-Failed g c words accepted =
     let failed = rw c.as_slice-3.ensures at puts in
     rw c.in_ok-output.ensures
     (write_failed words (g.F.Folder.state c.args.folder.now) (g.F.Folder.state c.read_file.new.folder) (g.F.Folder.state c.put.new.self) c.args.paths.now c.in-Ok.bytes c.in-Ok-read_document.document
-    accepted c.in-Ok.ensures.reads.held c.in-Ok.ensures.reads.within (rw c.as_slice.ensures at c.in-Ok-read_document.ensures.answer) (rw c.as_slice-2.ensures at c.in-Ok-read_ontology.ensures.0) c.in-Ok.ensures.holds c.in-Ok.ensures.counts failed)
+    accepted c.in-Ok.ensures.reads.held c.in-Ok.ensures.reads.within (rw c.as_slice.ensures at c.in-Ok-read_document.ensures.answer) (rw c.as_slice-2.ensures at c.in-Ok-read_ontology.ensures.built) c.in-Ok.ensures.holds c.in-Ok.ensures.counts failed)

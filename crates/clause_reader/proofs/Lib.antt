@@ -1,0 +1,4 @@
+pub mod AnswerLemmas
+pub mod LoopLemmas
+pub mod ScanLemmas
+pub mod ShapeLemmas

@@ -1,0 +1,104 @@
+//! The words behind a quoted text: scopes, types and datatypes.
+ghost use Rattle.std.specs.Prelude.{◌≡◌, IfOk};
+ghost use Rattle.std.specs.Option.{option_copied};
+ghost use Rattle.clause_reader.specs.Results.{Gives, GivesWith};
+ghost use Rattle.obo_clause.specs.ReadingLines as read;
+
+use crate::marks::text_of;
+use crate::runs::word_at;
+use obo_clause::{LineFault, Mark, Scope, SyntaxKind};
+use rel_io::{Bytes, NoMemory};
+use std::alloc::Global;
+
+/// The scope that a word is for.
+fn scope_of(word: &Bytes) -> Option<Scope>
+    ensures { result ≡ read.scope_of word.now }
+{
+    let word = word.as_slice();
+    if word == b"EXACT".as_slice() {
+        return Some(Scope::Exact);
+    }
+    if word == b"BROAD".as_slice() {
+        return Some(Scope::Broad);
+    }
+    if word == b"NARROW".as_slice() {
+        return Some(Scope::Narrow);
+    }
+    if word == b"RELATED".as_slice() {
+        return Some(Scope::Related);
+    }
+    None
+}
+
+/// What stands between the text of a synonym and its list.
+#[derive(Drop)]
+pub struct Scoped<'a> {
+    pub scope: Scope,
+    pub kind: Option<Bytes>,
+    pub rest: &'a [Mark],
+}
+
+/// The scope and the type behind the text of a synonym. A first word that is no scope is the type.
+#[tactic(auto, unfolding(obo_clause::specs::ReadingLines::scoped_at))]
+pub fn scoped_at(alloc: Global, marks: &[Mark]) -> Result<Scoped<'_>, NoMemory>
+    ensures { IfOk result (λ found. (found.scope, found.kind, found.rest.now) ≡ read.scoped_at marks.now) }
+{
+    let Some((word, rest)) = word_at(marks) else {
+        return Ok(Scoped {
+            scope: Scope::Related,
+            kind: None,
+            rest: marks,
+        });
+    };
+    let word = text_of(alloc, word)?;
+    match scope_of(&word) {
+        None => Ok(Scoped {
+            scope: Scope::Related,
+            kind: Some(word),
+            rest,
+        }),
+        Some(scope) => type_behind(alloc, scope, rest),
+    }
+}
+
+/// The type behind a scope, if there is one.
+fn type_behind(alloc: Global, scope: Scope, marks: &[Mark]) -> Result<Scoped<'_>, NoMemory>
+    ensures { IfOk result (λ found. (found.scope, found.kind, found.rest.now) ≡ read.type_behind scope marks.now) }
+{
+    match word_at(marks) {
+        None => Ok(Scoped {
+            scope,
+            kind: None,
+            rest: marks,
+        }),
+        Some((kind, rest)) => Ok(Scoped {
+            scope,
+            kind: Some(text_of(alloc, kind)?),
+            rest,
+        }),
+    }
+}
+
+/// An optional word, and the rest.
+pub fn may_have_word(marks: &[Mark]) -> (Option<&[Mark]>, &[Mark])
+    ensures { (option_copied result.0, result.1.now) ≡ read.may_have_word marks.now }
+{
+    match word_at(marks) {
+        None => (None, marks),
+        Some((word, rest)) => (Some(word), rest),
+    }
+}
+
+/// The scope behind the text of a synonym type, if there is one. Another word is too much.
+#[tactic(auto, unfolding(obo_clause::specs::ReadingLines::type_scope_at))]
+pub fn type_scope_at(alloc: Global, marks: &[Mark]) -> Result<(Option<Scope>, &[Mark]), LineFault>
+    ensures { GivesWith (read.type_scope_at marks.now) result }
+{
+    let Some((word, rest)) = word_at(marks) else {
+        return Ok((None, marks));
+    };
+    match scope_of(&text_of(alloc, word)?) {
+        None => Err(LineFault::Syntax(SyntaxKind::Trailing)),
+        Some(scope) => Ok((Some(scope), rest)),
+    }
+}

@@ -1,0 +1,290 @@
+//! Values, each in the shape of its tag, with the qualifiers of the ending behind them.
+ghost use Rattle.std.specs.Prelude.{◌≡◌, MatchResult, Ok, Err};
+ghost use Rattle.std.specs.Option.{option_copied};
+ghost use Rattle.obo_clause.specs.Marks as spec;
+ghost use Rattle.clause_reader.specs.Results.{Gives};
+ghost use Rattle.obo_clause.specs.ReadingLines as read;
+
+use crate::blocks::{FreeRun, end_at, free_run};
+use crate::bytes::{behind_blank_bytes, without_last_blanks};
+use crate::lists::list_at;
+use crate::marks::{behind_blanks, marks_of, text_of, trim_end};
+use crate::runs::{behind_sign, quoted_at, want_word, word_at};
+use crate::scopes::{may_have_word, scoped_at, type_scope_at};
+use obo_clause::{Content, LineFault, Mark, SyntaxKind, Value, Xref};
+use obo_tags::ValueShape;
+use rel_io::{Bytes, Items};
+use std::alloc::Global;
+
+/// The datatype of a text that has none.
+const TEXT_DATATYPE: &[u8] = b"xsd:string";
+
+/// What stands behind the colon, by the shape of the value there.
+pub fn read_shape(alloc: Global, shape: ValueShape, bytes: &[u8]) -> Result<Content, LineFault>
+    ensures { Gives (read.read_shape shape bytes.now) result }
+{
+    if shape == ValueShape::Raw {
+        return read_raw(alloc, bytes);
+    }
+    let marks = marks_of(alloc, bytes)?;
+    let marks = marks.as_slice();
+    match shape {
+        ValueShape::Text => read_text(alloc, marks),
+        ValueShape::Id => read_id(alloc, marks),
+        ValueShape::Pair => read_pair(alloc, marks),
+        ValueShape::IdOrPair => read_id_or_pair(alloc, marks),
+        ValueShape::Bool => read_bool(alloc, marks),
+        ValueShape::Def => read_definition(alloc, marks),
+        ValueShape::Synonym => read_synonym(alloc, marks),
+        ValueShape::XrefShape => read_xref(alloc, marks),
+        ValueShape::Property => read_property(alloc, marks),
+        ValueShape::SubsetDef => read_subset(alloc, marks),
+        ValueShape::SynonymDef => read_synonym_type(alloc, marks),
+        ValueShape::Raw => read_raw(alloc, bytes),
+    }
+}
+
+/// The rest of a line as it stands, without outer blanks.
+fn read_raw(alloc: Global, bytes: &[u8]) -> Result<Content, LineFault>
+    ensures { Gives (read.read_raw bytes.now) result }
+{
+    let text = without_last_blanks(behind_blank_bytes(bytes));
+    let text = Bytes::from_vec(Vec::from_slice(alloc, text)?);
+    Ok(Content {
+        value: Value::Raw(text),
+        qualifiers: Items::from_vec(Vec::new(alloc)),
+    })
+}
+
+/// A value, where an ending stands behind it.
+fn ended(alloc: Global, marks: &[Mark], value: Value) -> Result<Content, LineFault>
+    ensures { Gives (read.ended marks.now value) result }
+{
+    let qualifiers = end_at(alloc, marks)?;
+    Ok(Content { value, qualifiers })
+}
+
+/// A run of characters.
+#[tactic(auto, unfolding(obo_clause::specs::ReadingLines::read_text))]
+fn read_text(alloc: Global, marks: &[Mark]) -> Result<Content, LineFault>
+    ensures { Gives (read.read_text marks.now) result }
+{
+    let FreeRun {
+        run,
+        qualifiers,
+        ..
+    } = free_run(alloc, false, behind_blanks(marks))?;
+    let Some(qualifiers) = qualifiers else {
+        return Err(LineFault::Syntax(SyntaxKind::Trailing));
+    };
+    let text = text_of(alloc, trim_end(run))?;
+    Ok(Content {
+        value: Value::Text(text),
+        qualifiers,
+    })
+}
+
+/// One word.
+#[tactic(auto, unfolding(obo_clause::specs::ReadingLines::read_id))]
+fn read_id(alloc: Global, marks: &[Mark]) -> Result<Content, LineFault>
+    ensures { Gives (read.read_id marks.now) result }
+{
+    let (word, rest) = want_word(marks)?;
+    let word = text_of(alloc, word)?;
+    ended(alloc, rest, Value::Id(word))
+}
+
+/// Two words.
+#[tactic(auto, unfolding(obo_clause::specs::ReadingLines::read_pair))]
+fn read_pair(alloc: Global, marks: &[Mark]) -> Result<Content, LineFault>
+    ensures { Gives (read.read_pair marks.now) result }
+{
+    let (first, rest) = want_word(marks)?;
+    let (second, rest) = want_word(rest)?;
+    let first = text_of(alloc, first)?;
+    let second = text_of(alloc, second)?;
+    ended(alloc, rest, Value::Pair(first, second))
+}
+
+/// One word, or two.
+#[tactic(auto, unfolding(obo_clause::specs::ReadingLines::read_id_or_pair))]
+fn read_id_or_pair(alloc: Global, marks: &[Mark]) -> Result<Content, LineFault>
+    ensures { Gives (read.read_id_or_pair marks.now) result }
+{
+    let (first, rest) = want_word(marks)?;
+    let first = text_of(alloc, first)?;
+    match word_at(rest) {
+        None => ended(alloc, rest, Value::Id(first)),
+        Some((second, rest)) => {
+            let second = text_of(alloc, second)?;
+            ended(alloc, rest, Value::Pair(first, second))
+        }
+    }
+}
+
+/// The truth value that a word is for.
+fn truth_of(word: &Bytes) -> Result<bool, SyntaxKind>
+    ensures { MatchResult result
+        (λ truth. read.want_truth word.now ≡ Ok truth)
+        (λ one. read.want_truth word.now ≡ Err one) }
+{
+    if word.as_slice() == b"true".as_slice() {
+        return Ok(true);
+    }
+    if word.as_slice() == b"false".as_slice() {
+        return Ok(false);
+    }
+    Err(SyntaxKind::BadBool)
+}
+
+/// A truth value.
+#[tactic(auto, unfolding(obo_clause::specs::ReadingLines::read_bool))]
+fn read_bool(alloc: Global, marks: &[Mark]) -> Result<Content, LineFault>
+    ensures { Gives (read.read_bool marks.now) result }
+{
+    let (word, rest) = want_word(marks)?;
+    let truth = truth_of(&text_of(alloc, word)?)?;
+    ended(alloc, rest, Value::Bool(truth))
+}
+
+/// A quoted text and its dbxrefs.
+#[tactic(auto, unfolding(obo_clause::specs::ReadingLines::read_definition))]
+fn read_definition(alloc: Global, marks: &[Mark]) -> Result<Content, LineFault>
+    ensures { Gives (read.read_definition marks.now) result }
+{
+    let (text, rest) = quoted_at(marks)?;
+    let (xrefs, rest) = list_at(alloc, rest)?;
+    let text = text_of(alloc, text)?;
+    ended(alloc, rest, Value::Def { text, xrefs })
+}
+
+/// A quoted text, its scope, its type and its dbxrefs.
+#[tactic(auto, unfolding(obo_clause::specs::ReadingLines::read_synonym))]
+fn read_synonym(alloc: Global, marks: &[Mark]) -> Result<Content, LineFault>
+    ensures { Gives (read.read_synonym marks.now) result }
+{
+    let (text, rest) = quoted_at(marks)?;
+    let text = text_of(alloc, text)?;
+    let scoped = scoped_at(alloc, rest)?;
+    let (xrefs, rest) = list_at(alloc, scoped.rest)?;
+    ended(
+        alloc,
+        rest,
+        Value::Synonym {
+            text,
+            scope: scoped.scope,
+            kind: scoped.kind,
+            xrefs,
+        },
+    )
+}
+
+/// A run of characters, and its label.
+#[tactic(auto, unfolding(obo_clause::specs::ReadingLines::read_xref))]
+fn read_xref(alloc: Global, marks: &[Mark]) -> Result<Content, LineFault>
+    ensures { Gives (read.read_xref marks.now) result }
+{
+    let FreeRun {
+        run,
+        rest,
+        qualifiers,
+    } = free_run(alloc, true, behind_blanks(marks))?;
+    if run.is_empty() {
+        return Err(LineFault::Syntax(SyntaxKind::NoValue));
+    }
+    let id = text_of(alloc, trim_end(run))?;
+    match qualifiers {
+        None => labelled(alloc, id, rest),
+        Some(qualifiers) => Ok(Content {
+            value: Value::XrefValue(Xref { id, label: None }),
+            qualifiers,
+        }),
+    }
+}
+
+/// A label behind the run of an xref.
+fn labelled(alloc: Global, id: Bytes, marks: &[Mark]) -> Result<Content, LineFault>
+    ensures { Gives (read.labelled id marks.now) result }
+{
+    let (label, rest) = quoted_at(marks)?;
+    let label = Some(text_of(alloc, label)?);
+    ended(alloc, rest, Value::XrefValue(Xref { id, label }))
+}
+
+/// A property, and a quoted text with its datatype or a word.
+#[tactic(auto, unfolding(obo_clause::specs::ReadingLines::read_property))]
+fn read_property(alloc: Global, marks: &[Mark]) -> Result<Content, LineFault>
+    ensures { Gives (read.read_property marks.now) result }
+{
+    let (word, rest) = want_word(marks)?;
+    let relation = text_of(alloc, word)?;
+    match behind_sign(b'"', behind_blanks(rest)) {
+        None => read_link(alloc, relation, rest),
+        Some(_) => read_literal(alloc, relation, rest),
+    }
+}
+
+/// A quoted text and its datatype.
+#[tactic(auto, unfolding(obo_clause::specs::ReadingLines::read_literal))]
+fn read_literal(alloc: Global, relation: Bytes, marks: &[Mark]) -> Result<Content, LineFault>
+    ensures { Gives (read.read_literal relation marks.now) result }
+{
+    let (text, rest) = quoted_at(marks)?;
+    let text = text_of(alloc, text)?;
+    let (datatype, rest) = may_have_word(rest);
+    let datatype = datatype_of(alloc, datatype)?;
+    ended(
+        alloc,
+        rest,
+        Value::Literal {
+            relation,
+            text,
+            datatype,
+        },
+    )
+}
+
+/// The datatype that a word is, or that of a text that has none.
+fn datatype_of(alloc: Global, word: Option<&[Mark]>) -> Result<Bytes, LineFault>
+    ensures { Gives (Ok (read.datatype_of (option_copied word.entry))) result }
+{
+    match word {
+        None => Ok(Bytes::from_vec(Vec::from_slice(alloc, TEXT_DATATYPE)?)),
+        Some(word) => Ok(text_of(alloc, word)?),
+    }
+}
+
+/// A word behind its property.
+#[tactic(auto, unfolding(obo_clause::specs::ReadingLines::read_link))]
+fn read_link(alloc: Global, relation: Bytes, marks: &[Mark]) -> Result<Content, LineFault>
+    ensures { Gives (read.read_link relation marks.now) result }
+{
+    let (target, rest) = want_word(marks)?;
+    let target = text_of(alloc, target)?;
+    ended(alloc, rest, Value::Link { relation, target })
+}
+
+/// A word and a quoted text.
+#[tactic(auto, unfolding(obo_clause::specs::ReadingLines::read_subset))]
+fn read_subset(alloc: Global, marks: &[Mark]) -> Result<Content, LineFault>
+    ensures { Gives (read.read_subset marks.now) result }
+{
+    let (id, rest) = want_word(marks)?;
+    let (text, rest) = quoted_at(rest)?;
+    let id = text_of(alloc, id)?;
+    let text = text_of(alloc, text)?;
+    ended(alloc, rest, Value::SubsetDef { id, text })
+}
+
+/// A word, a quoted text, and its scope.
+#[tactic(auto, unfolding(obo_clause::specs::ReadingLines::read_synonym_type))]
+fn read_synonym_type(alloc: Global, marks: &[Mark]) -> Result<Content, LineFault>
+    ensures { Gives (read.read_synonym_type marks.now) result }
+{
+    let (id, rest) = want_word(marks)?;
+    let (text, rest) = quoted_at(rest)?;
+    let id = text_of(alloc, id)?;
+    let text = text_of(alloc, text)?;
+    let (scope, rest) = type_scope_at(alloc, rest)?;
+    ended(alloc, rest, Value::SynonymDef { id, text, scope })
+}

@@ -1,6 +1,0 @@
-use Rattle.std.proofs.Common.{length, suc}
-use Rattle.obo_clause.proofs.LoopLemmas.{BlocksOn}
-use Rattle.obo_clause.proofs.blocks.qualifiers_in.Given as goal
-
-abbrev pub invariant-loop : goal.invariant-loop
-invariant-loop l = BlocksOn l.fn.marks (suc (length l.fn.marks)) l.qualifiers.items l.rest l.counter

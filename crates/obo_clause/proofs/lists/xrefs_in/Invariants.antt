@@ -1,6 +1,0 @@
-use Rattle.std.proofs.Common.{length, suc}
-use Rattle.obo_clause.proofs.LoopLemmas.{ListsOn}
-use Rattle.obo_clause.proofs.lists.xrefs_in.Given as goal
-
-abbrev pub invariant-loop : goal.invariant-loop
-invariant-loop l = ListsOn l.fn.marks (suc (length l.fn.marks)) l.xrefs.items l.rest l.counter

@@ -1,6 +1,0 @@
-use Rattle.obo_clause.proofs.PrintedLines.{fit_is_spelled}
-use Rattle.obo_clause.proofs.SpelledFits.{spelled_fits}
-use Rattle.obo_clause.proofs.print_laws.spelled_clauses_fit.Goals as goal
-
-pub returns : goal.returns
-returns c kind first = (spelled_fits kind first c.args.clause.now, fit_is_spelled kind first c.args.clause.now)

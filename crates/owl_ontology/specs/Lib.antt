@@ -1,0 +1,2 @@
+pub mod Ontology
+pub mod Origins

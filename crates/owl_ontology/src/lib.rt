@@ -1,0 +1,13 @@
+//! An ontology: a name, and a list of proper axioms without repeats, each with its least origin.
+#![tactic(auto)]
+
+mod laws;
+mod ontology;
+mod origin;
+
+pub use laws::adding_keeps_the_lesser_origin;
+pub use ontology::Ontology;
+pub use origin::Origin;
+
+#[cfg(test)]
+mod tests;

@@ -1,0 +1,161 @@
+//! `Ontology`: a name and a list of proper axioms without repeats, each with its least origin.
+ghost use Rattle.std.specs.Prelude.{◌≡◌, ◌<◌, ◌↔◌, [], Some, IsTrue, IfOk, OnOk, OnErr, drop, length, slice_get};
+ghost use Rattle.std.specs.Option.{option_copied, option_map_or};
+ghost use Rattle.indexmap.specs.IndexMap.{IsUnique};
+ghost use Rattle.owl_axioms.specs.Same.{same_axiom};
+ghost use Rattle.owl_ontology.specs.Ontology.{AreDifferent, IsHeld, add_entry, axioms_of, first_flag, flagged, origins_of};
+ghost use Rattle.owl_ontology.specs.Origins.{lesser};
+ghost use Rattle.owl_axioms.specs.Proper.{AreProper, IsProper};
+
+use crate::Origin;
+use indexmap::IndexMap;
+use owl_axioms::Axiom;
+use rel_io::{Bytes, Dup, NoMemory};
+use std::alloc::Global;
+use std::marker::Model;
+
+/// An ontology: seen as its name and its entries, the axioms in the order in which they came, each with the
+/// least of the origins with which it was added. All its axioms are proper and different.
+#[derive(Drop)]
+pub struct Ontology {
+    name: Option<Bytes>,
+    axioms: IndexMap<Axiom, Origin>,
+}
+
+impl Model for Ontology {
+    ghost use Rattle.std.specs.Coded.{codes};
+    ghost use Rattle.indexmap.specs.IndexMap.{IsUnique, keys};
+    ghost use Rattle.owl_axioms.specs.contracts.expr.ClassExpr as row;
+    ghost use Rattle.owl_axioms.specs.Same.{same_axiom};
+    ghost use Rattle.owl_ontology.specs.Ontology.{OntologyState, entries_of};
+    ghost use Rattle.owl_axioms.specs.Proper.{AreProper};
+
+    ghost Value = { OntologyState };
+
+    ghost coded = { Prim.hlevel (codes, row.the_row.coded) };
+
+    ghost view = { λ o. record { name = o.name; entries = entries_of o.axioms.entries } };
+
+    ghost invariant = { λ o. IsUnique same_axiom o.axioms × AreProper (keys o.axioms) };
+}
+
+impl Ontology {
+    /// An ontology of this name, or of none, without axioms.
+    pub fn new(alloc: Global, name: Option<Bytes>) -> Result<Ontology, NoMemory>
+        ensures { IfOk result (λ o. o ≡ record { name = name; entries = [] }) }
+    {
+        Ok(Ontology {
+            name,
+            axioms: IndexMap::new(alloc),
+        })
+    }
+
+    /// Adds an axiom, and says whether it is new. One that is there already keeps its place, with the lesser of
+    /// the two origins. Where no memory is left, nothing has happened.
+    pub fn add(&mut self, axiom: Axiom, origin: Origin) -> Result<bool, NoMemory>
+        requires { IsProper «axiom» }
+        ensures entries { OnOk result (self.new ≡ record self.old { entries = add_entry «axiom» origin self.old.entries }) }
+        ensures is_new { IfOk result (λ is_new. IsTrue is_new ↔ ¬ IsHeld «axiom» self.old.entries) }
+        ensures unchanged { OnErr result (self.new ≡ self.old) }
+    {
+        let least = least_origin(self.axioms.get(&axiom).copied(), origin);
+        let held = self.axioms.insert(axiom, least)?;
+        Ok(held.is_none())
+    }
+
+    /// The name, if it has one.
+    pub fn name(&self) -> Option<&Bytes>
+        ensures { option_copied result ≡ self.now.name }
+    {
+        self.name.as_ref()
+    }
+
+    /// Whether the axiom is there, with these annotations.
+    pub fn holds(&self, axiom: &Axiom) -> bool
+        ensures { IsTrue result ↔ IsHeld «axiom».now self.now.entries }
+    {
+        self.axioms.contains_key(axiom)
+    }
+
+    /// How many axioms there are. They are all different and proper.
+    pub fn len(&self) -> usize
+        ensures len { result ≡ length self.now.entries }
+        ensures different { AreDifferent self.now.entries }
+        ensures proper { AreProper (axioms_of self.now.entries) }
+    {
+        self.axioms.len()
+    }
+
+    /// The axiom at a place, from 0.
+    pub fn get(&self, at: usize) -> &Axiom
+        requires { at < length self.now.entries }
+        ensures found { slice_get (axioms_of self.now.entries) at ≡ Some result.now }
+        ensures proper { IsProper result.now }
+    {
+        self.axioms.get_index(at).unwrap().0
+    }
+
+    /// Keeps the axioms whose flag is true, in their order and with their origins, and drops the others.
+    pub fn keep(&mut self, flags: &Vec<bool>)
+        requires { length flags.now.items ≡ length self.old.entries }
+        ensures { self.new ≡ record self.old { entries = flagged flags.now.items self.old.entries } }
+    {
+        let mut rest = flags.as_slice();
+        self.axioms.retain(
+            |_axiom: &Axiom, origin: &mut Origin| -> bool
+                ensures { (result ≡ first_flag rest.entry.now) × (rest.exit.now ≡ drop 1 rest.entry.now) × (origin.new ≡ origin.old) }
+            {
+                match rest.split_first() {
+                    Some((flag, others)) => {
+                        rest = others;
+                        *flag
+                    }
+                    None => false,
+                }
+            },
+        );
+    }
+
+    /// Where the axiom at a place comes from.
+    pub fn origin(&self, at: usize) -> Origin
+        requires { at < length self.now.entries }
+        ensures { slice_get (origins_of self.now.entries) at ≡ Some result }
+    {
+        self.axioms[at]
+    }
+}
+
+impl Dup for Ontology {
+    fn copy(&self, alloc: Global) -> Result<Ontology, NoMemory> {
+        let name = self.name.copy(alloc)?;
+        let axioms = copy_table(alloc, &self.axioms)?;
+        Ok(Ontology { name, axioms })
+    }
+}
+
+/// A table of the same axioms and origins, in the same order.
+fn copy_table(
+    alloc: Global,
+    axioms: &IndexMap<Axiom, Origin>,
+) -> Result<IndexMap<Axiom, Origin>, NoMemory>
+    ensures same { IfOk result (λ twins. twins.entries ≡ axioms.now.entries) }
+    ensures unique { IfOk result (IsUnique same_axiom) }
+{
+    let mut twins = IndexMap::new(alloc);
+    for at in 0..axioms.len() {
+        let (axiom, origin) = axioms.get_index(at).unwrap();
+        let twin = axiom.copy(alloc)?;
+        twins.insert(twin, *origin)?;
+    }
+    Ok(twins)
+}
+
+/// The lesser of the origin that an axiom has, if any, and another one.
+fn least_origin(held: Option<Origin>, origin: Origin) -> Origin
+    ensures { result ≡ option_map_or (lesser origin) held origin }
+{
+    match held {
+        Some(held) => { if held < origin { held } else { origin } }
+        None => origin,
+    }
+}

@@ -1,0 +1,14 @@
+pub mod EntryLemmas
+pub mod FormLemmas
+pub mod FrameLists
+pub mod FramesRead
+pub mod FramesSorted
+pub mod FramesWritten
+pub mod HeaderLemmas
+pub mod LawLemmas
+pub mod LineLemmas
+pub mod MappingLemmas
+pub mod OrderLemmas
+pub mod ReaderLemmas
+pub mod TextLaws
+pub mod TextLemmas

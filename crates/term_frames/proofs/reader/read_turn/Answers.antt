@@ -1,0 +1,15 @@
+use Rattle.std.proofs.Common.{sym, subst, ◌∙◌}
+use Rattle.std.proofs.lemmas.Result.{err_from_is_err_and}
+use Rattle.term_frames.specs.Progress.{Read, ReadInFrame}
+use Rattle.term_frames.proofs.reader.read_turn.Goals as goal
+
+pub returns-then-is_frame_line-clause-read : goal.returns-then-is_frame_line-clause-read
+returns-then-is_frame_line-clause-read c lines read =
+    c.begin_frame.ensures.read lines read.earlier c.args.place.frame.now c.split_line.result.0.now (sym c.is_frame_line.ensures ∙ c.if-is_frame_line.true)
+    (subst (Read c.args.space.now lines read.earlier c.args.ontology.now.entries c.args.place.frame.now c.args.place.number) c.split_line.ensures.lines read.read)
+
+pub returns-in_err-is_named-clause-read : goal.returns-in_err-is_named-clause-read
+returns-in_err-is_named-clause-read c lines read =
+    let p = err_from_is_err_and c.from_residual.result c.from_residual.ensures.1 in
+    rw (p.1, p.2) (c.in_err-is_named.ensures.read lines _ (sym c.is_frame_line.ensures ∙ c.if-is_frame_line.false)
+    (subst (ReadInFrame c.args.space.now lines c.args.ontology.now.entries c.args.place.frame.now c.args.place.is_named c.args.place.number) c.split_line.ensures.lines read))
