@@ -11,7 +11,7 @@ use Rattle.obo_frames.specs.declared.fault.DocFault.{DocFault}
 use Rattle.obo_frames.specs.declared.fault.DocFault.TheVariants as doc
 use Rattle.obo_frames.specs.declared.placed.Placed.{Placed}
 use Rattle.term_frames.specs.Built.{unbuilt_line}
-use Rattle.release_chain.specs.Ending.{Ends, Runs, fault_of_input}
+use Rattle.release_chain.specs.Ending.{Ends, RanOut, Runs, fault_of_input}
 use Rattle.term_frames.specs.Lines.{Line, lines_of}
 use Rattle.term_frames.specs.Mapping.{ontology_of}
 use Rattle.term_frames.specs.Text.{obo_text}
@@ -62,18 +62,18 @@ wrote_nothing None = refl
 wrote_nothing (Some files) = refl
 
 -- the run of a chain opens its input
-run_lines-openings : (paths : Paths) (lines : List Line) (unbuilt : Option ℕ) → (run_lines paths lines unbuilt).openings ≡ record { name = paths.input; behind = [] } ∷ []
+run_lines-openings : (paths : Paths) (lines : List Line) (unbuilt : Option ℕ) → (run_lines paths lines unbuilt).openings ≡ record { name = paths.input; written_before = [] } ∷ []
 run_lines-openings paths lines None = refl
 run_lines-openings paths lines (Some line) = refl
 
-run_document-openings : (paths : Paths) (lines : List Line) (document : Result (List Placed) DocFault) → (run_document paths lines document).openings ≡ record { name = paths.input; behind = [] } ∷ []
+run_document-openings : (paths : Paths) (lines : List Line) (document : Result (List Placed) DocFault) → (run_document paths lines document).openings ≡ record { name = paths.input; written_before = [] } ∷ []
 run_document-openings paths lines (Ok placed) = run_lines-openings paths lines (unbuilt_line lines)
 run_document-openings paths lines (Err one) = refl
 
-run_input-openings : (paths : Paths) (held : Option (List ℕ)) → (run_input paths held).openings ≡ record { name = paths.input; behind = [] } ∷ []
+run_input-openings : (paths : Paths) (held : Option (List ℕ)) → (run_input paths held).openings ≡ record { name = paths.input; written_before = [] } ∷ []
 run_input-openings paths None = refl
 run_input-openings paths (Some bytes) =
-    elim (nat_le (length bytes) byte_limit) as (λ b. (if b then run_bytes paths bytes else refuses paths (TooManyBytes paths.input byte_limit)).openings ≡ record { name = paths.input; behind = [] } ∷ []) [
+    elim (nat_le (length bytes) byte_limit) as (λ b. (if b then run_bytes paths bytes else refuses paths (TooManyBytes paths.input byte_limit)).openings ≡ record { name = paths.input; written_before = [] } ∷ []) [
       | true ↦ run_document-openings paths (lines_of bytes) (document_of line_limit bytes)
       | false ↦ refl
     ]
@@ -89,6 +89,13 @@ ends_refused : (before now : FolderState) (paths : Paths) (fault : Fault) (r : R
 ends_refused before now paths fault r is same = record {
   refusal = sym (ap (λ r. r.refusal) is);
   outputs = rw is (same ∙ wrote_nothing before.holds);
+}
+
+-- memory ran out before anything was written
+pub ran_out : (words : List Word) (before now : FolderState) (paths : Paths) → chain words ≡ Ok paths → now.holds ≡ before.holds → RanOut words before now
+ran_out words before now paths accepted same = record {
+  untouched = rw accepted tt;
+  wrote = if_some _ (run words before.holds) (λ r e. record { written = []; rest = r.outputs; outputs = refl; wrote = same ∙ wrote_nothing before.holds });
 }
 
 -- the input was not read: it is missing or too long, or its turn is where the run stopped
@@ -109,7 +116,7 @@ input_failed words before now paths file.ReadFault accepted counted same = (
     stopped = if_some _ (run words before.holds) (λ r e.
         let known = known_run words before paths r accepted e in
         record {
-          opening = record { name = paths.input; behind = [] };
+          opening = record { name = paths.input; written_before = [] };
           is_one = rw (← known.is, run_input-openings) (0, omega arith, refl);
           named = refl;
           wrote = same ∙ wrote_nothing before.holds;
@@ -123,8 +130,7 @@ input_failed words before now paths file.TooManyBytes accepted long same = recor
       let too_long = at_some _ known.told long in
       ends_refused before now paths (TooManyBytes paths.input byte_limit) r (sym known.is ∙ run_input-long paths (get known.files paths.input) too_long.0 too_long.1 too_long.2) same);
 }
-input_failed words before now paths file.NoMemory accepted free same =
-    if_some _ (run words before.holds) (λ r e. record { written = []; rest = r.outputs; outputs = refl; wrote = same ∙ wrote_nothing before.holds })
+input_failed words before now paths file.NoMemory accepted free same = ran_out words before now paths accepted same
 
 -- the run of an input that is no document
 faulty_run : (paths : Paths) (held : Option (List ℕ)) (bytes : List ℕ) (one : DocFault) → held ≡ Some bytes → length bytes ≤ byte_limit → Err one ≡ document_of line_limit bytes → run_input paths held ≡ refuses paths (fault_in paths.input one)
@@ -161,8 +167,7 @@ document_failed words before now paths bytes (doc.LineTooLong line) accepted hel
 document_failed words before now paths bytes (doc.Syntax line kind) accepted held short answer same = document_runs words before now paths bytes (doc.Syntax line kind) (λ e. let h : doc.Syntax line kind ≡ doc.NoMemory = e in absurd (cc)) accepted held short answer same
 document_failed words before now paths bytes (doc.NoId line) accepted held short answer same = document_runs words before now paths bytes (doc.NoId line) (λ e. let h : doc.NoId line ≡ doc.NoMemory = e in absurd (cc)) accepted held short answer same
 document_failed words before now paths bytes (doc.ShortGroup line) accepted held short answer same = document_runs words before now paths bytes (doc.ShortGroup line) (λ e. let h : doc.ShortGroup line ≡ doc.NoMemory = e in absurd (cc)) accepted held short answer same
-document_failed words before now paths bytes doc.NoMemory accepted held short answer same =
-    if_some _ (run words before.holds) (λ r e. record { written = []; rest = r.outputs; outputs = refl; wrote = same ∙ wrote_nothing before.holds })
+document_failed words before now paths bytes doc.NoMemory accepted held short answer same = ran_out words before now paths accepted same
 
 stopped_at_output : (words : List Word) (before mid now : FolderState) (paths : Paths) (bytes : List ℕ) (placed : List Placed) (r : Run) → chain words ≡ Ok paths → IfSome before.holds (λ files. get files paths.input ≡ Some bytes) → length bytes ≤ byte_limit → AnswersIt line_limit bytes (Ok placed) → unbuilt_line (lines_of bytes) ≡ None
     → mid.holds ≡ before.holds → WriteFailed paths.output mid now → run words before.holds ≡ Some r → StoppedAtOutput r before paths.output now

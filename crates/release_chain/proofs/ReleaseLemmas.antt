@@ -12,7 +12,8 @@ use Rattle.obo_frames.specs.Answer.{document_of}
 use Rattle.obo_frames.specs.declared.fault.DocFault.{DocFault}
 use Rattle.obo_frames.specs.declared.placed.Placed.{Placed}
 use Rattle.term_frames.specs.Built.{unbuilt_line}
-use Rattle.term_frames.specs.Lines.{Line, lines_of}
+use Rattle.term_frames.specs.Laws.{SaysTheSame}
+use Rattle.term_frames.specs.Lines.{lines_of}
 use Rattle.release_chain.specs.Ending.{Ends}
 use Rattle.term_frames.specs.Mapping.{ontology_of}
 use Rattle.release_chain.specs.Release.{IsReleased}
@@ -24,34 +25,37 @@ use Rattle.release_chain.specs.declared.fault.Fault.TheVariants.{TooManyBytes}
 use Rattle.release_chain.specs.declared.words.Paths.{Paths}
 use Rattle.release_chain.specs.declared.words.WrongWord.{WrongWord}
 use Rattle.term_frames.proofs.EntryLemmas.{first_or_later, none_in_nothing}
+use Rattle.term_frames.proofs.TextLaws.{text_reads_back}
 
 -- a run writes at most one file, the text of its merged ontology
 record IsOnly (r : Run) (output : Output) : Type 0 where
   text : output.bytes ≡ obo_text output.ontology
+  reads_back : SaysTheSame (ontology_of (lines_of output.bytes)) output.ontology
   merged : r.merged ≡ Some output.ontology
   only : r.outputs ≡ output ∷ []
 
 abbrev WritesOne : Run → Type 0
 WritesOne r = (output : Output) → Contains r.outputs output → IsOnly r output
 
-lines_write : (paths : Paths) (lines : List Line) (unbuilt : Option ℕ) → WritesOne (run_lines paths lines unbuilt)
-lines_write paths lines (Some line) output here = absurd (none_in_nothing output here)
-lines_write paths lines None output here =
+lines_write : (paths : Paths) (bytes : List ℕ) (unbuilt : Option ℕ) → unbuilt_line (lines_of bytes) ≡ unbuilt → WritesOne (run_lines paths (lines_of bytes) unbuilt)
+lines_write paths bytes (Some line) is output here = absurd (none_in_nothing output here)
+lines_write paths bytes None built output here =
+    let lines = lines_of bytes in
     let r = run_lines paths lines None in
     ⊎_elim
-    (λ is. subst (IsOnly r) is (record { text = refl; merged = refl; only = refl }))
+    (λ is. subst (IsOnly r) is (record { text = refl; reads_back = (text_reads_back bytes built).same; merged = refl; only = refl }))
     (λ none. absurd (none_in_nothing output none))
     (first_or_later (record { name = paths.output; ontology = ontology_of lines; bytes = obo_text (ontology_of lines) }) [] output here)
 
-document_writes : (paths : Paths) (lines : List Line) (document : Result (List Placed) DocFault) → WritesOne (run_document paths lines document)
-document_writes paths lines (Ok placed) = lines_write paths lines (unbuilt_line lines)
-document_writes paths lines (Err one) = λ output here. absurd (none_in_nothing output here)
+document_writes : (paths : Paths) (bytes : List ℕ) (document : Result (List Placed) DocFault) → WritesOne (run_document paths (lines_of bytes) document)
+document_writes paths bytes (Ok placed) = lines_write paths bytes (unbuilt_line (lines_of bytes)) refl
+document_writes paths bytes (Err one) = λ output here. absurd (none_in_nothing output here)
 
 input_writes : (paths : Paths) (held : Option (List ℕ)) → WritesOne (run_input paths held)
 input_writes paths None = λ output here. absurd (none_in_nothing output here)
 input_writes paths (Some bytes) =
     elim (nat_le (length bytes) byte_limit) as (λ b. WritesOne (if b then run_bytes paths bytes else refuses paths (TooManyBytes paths.input byte_limit))) [
-      | true ↦ document_writes paths (lines_of bytes) (document_of line_limit bytes)
+      | true ↦ document_writes paths bytes (document_of line_limit bytes)
       | false ↦ λ output here. absurd (none_in_nothing output here)
     ]
 
@@ -83,5 +87,6 @@ released words before now (Ok done) ends none =
     record {
       held = put_is_held before.holds now.holds r.outputs output (at_some _ e ends.ending).outputs one.only;
       text = one.text;
+      reads_back = one.reads_back;
       merged = one.merged;
     })

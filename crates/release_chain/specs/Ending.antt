@@ -1,8 +1,8 @@
 -- How a chain ends, case by case: every clause of the top call follows from it. (Own.)
-use Rattle.std.specs.Prelude.{◌≡◌, ℕ, List, Option, Some, None, Result, Ok, Err, IfSome, IsOk, ⊤}
+use Rattle.std.specs.Prelude.{◌≡◌, ℕ, List, Option, Some, None, Result, Ok, Err, IfErr, IsOk, ⊤}
 use Rattle.rel_io.specs.Count.{Rose}
 use Rattle.rel_io.specs.FolderState.{FolderState}
-use Rattle.release_chain.specs.Release.{EndsAs, ReadFaultCaused, WriteFaultCaused, WrotePrefix}
+use Rattle.release_chain.specs.Release.{EndsAs, OfRun, ReadFaultCaused, WriteFaultCaused, WrotePrefix}
 use Rattle.release_chain.specs.Run.{byte_limit, run}
 use Rattle.release_chain.specs.Words.{Word, chain}
 use Rattle.release_chain.specs.declared.fault.Fault.{Fault}
@@ -37,12 +37,17 @@ fault_of_input name file.NoMemory = NoMemory
 -- the words are a chain, and the ending is that of its run, with this fault or none
 pub record Runs (words : List Word) (before : FolderState) (fault : Option Fault) (now : FolderState) : Type 0 where
   pub accepted : IsOk (chain words)
-  pub ending : IfSome (run words before.holds) (λ run. EndsAs run before fault now)
+  pub ending : OfRun words before (λ run. EndsAs run before fault now)
 
 -- the words are no chain, and nothing was touched
 pub record IsNoChain (words : List Word) (before : FolderState) (index : ℕ) (kind : WordKind) (now : FolderState) : Type 0 where
   pub wrong : chain words ≡ Err (record { index = index; kind = kind })
   pub untouched : now ≡ before
+
+-- memory ran out: before anything was touched where the words are no chain, and else behind the first outputs of the run
+pub record RanOut (words : List Word) (before now : FolderState) : Type 0 where
+  pub untouched : IfErr (chain words) (λ _. now ≡ before)
+  pub wrote : OfRun words before (λ run. WrotePrefix run before now)
 
 -- how the words ended
 abbrev pub Ends : List Word → FolderState → Result ⊤ Fault → FolderState → Type 0
@@ -58,7 +63,7 @@ Ends words before (Err (ShortGroup file line)) now = Runs words before (Some (Sh
 Ends words before (Err (LineNotBuilt file line)) now = Runs words before (Some (LineNotBuilt file line)) now
 Ends words before (Err (ReadFault name)) now = IsOk (chain words) × ReadFaultCaused words before name now
 Ends words before (Err (WriteFault name)) now = IsOk (chain words) × WriteFaultCaused words before name now
-Ends words before (Err NoMemory) now = IfSome (run words before.holds) (λ run. WrotePrefix run before now)
+Ends words before (Err NoMemory) now = RanOut words before now
 
 -- how the chain of these paths ended, whatever words it was read from
 abbrev pub EndsChain : Paths → FolderState → Result ⊤ Fault → FolderState → Type 0

@@ -24,19 +24,17 @@ pub record Output : Type 0 where
   pub ontology : OntologyState
   pub bytes : List ℕ
 
--- a file that is opened, behind these outputs
+-- a file that is opened, and the outputs that are written before that
 pub record Opening : Type 0 where
   pub name : List ℕ
-  pub behind : List Output
+  pub written_before : List Output
 
+-- what a run does: the files that it opens, in their order; the ontology of its inputs, where all of them are read; the
+-- files that it writes, in their order; and what ends it behind them, if anything is refused
 pub record Run : Type 0 where
-  -- the files that are opened, in their order
   pub openings : List Opening
-  -- the ontology of the inputs, where all of them were read
   pub merged : Option OntologyState
-  -- the files that are written, in their order
   pub outputs : List Output
-  -- what ends the run behind them, if anything is refused
   pub refusal : Option Fault
 
 -- the most bytes that the files of a chain have together
@@ -58,12 +56,12 @@ fault_in file doc.NoMemory = NoMemory
 
 -- a run that opens the input and refuses
 abbrev pub refuses : Paths → Fault → Run
-refuses paths fault = record { openings = record { name = paths.input; behind = [] } ∷ []; merged = None; outputs = []; refusal = Some fault }
+refuses paths fault = record { openings = record { name = paths.input; written_before = [] } ∷ []; merged = None; outputs = []; refusal = Some fault }
 
 -- a run that opens the input and writes this ontology, the merged one, to the output
 abbrev pub writes : Paths → OntologyState → Run
 writes paths ontology = record {
-  openings = record { name = paths.input; behind = [] } ∷ [];
+  openings = record { name = paths.input; written_before = [] } ∷ [];
   merged = Some ontology;
   outputs = record { name = paths.output; ontology = ontology; bytes = obo_text ontology } ∷ [];
   refusal = None;

@@ -41,7 +41,10 @@ fn run_chain<F: Folder>(alloc: Global, paths: &Paths, folder: &mut F) -> Result<
     }
     let ontology = match read_ontology(alloc, bytes.as_slice()) {
         Ok(ontology) => ontology,
-        Err(TermsFault::LineNotBuilt { line }) => return Err(Fault::LineNotBuilt { file: name, line }),
+        Err(TermsFault::LineNotBuilt { line }) => return Err(Fault::LineNotBuilt {
+            file: name,
+            line,
+        }),
         Err(TermsFault::NoMemory) => return Err(Fault::NoMemory),
     };
     drop(bytes);

@@ -2,7 +2,7 @@
 ghost use Rattle.std.specs.Prelude.{◌≡◌, ◌≢◌, ◌↔◌, IsSome, map};
 ghost use Rattle.std.specs.String.{string_bytes};
 ghost use Rattle.release_chain.specs.Fault.{status_of_ending};
-ghost use Rattle.release_chain.specs.Release.{BadWordsRefused, Complete, Done, MemoryRanOut, MissesCounted, ReadFaults, Refused, Released, WriteFaults};
+ghost use Rattle.release_chain.specs.Release.{BadWordsRefused, Complete, MemoryRanOut, MissesCounted, NothingElse, ReadFaults, Refused, Released, WriteFaults};
 
 use crate::Ended;
 use crate::chain::run_words;
@@ -11,9 +11,11 @@ use std::alloc::Global;
 
 /// Does all that the program does, and says how it ended. `words` are those behind the program's name.
 ///
-/// With status 0 each file that it wrote is the text of the axioms of its input, all of them and no other
-/// (`released`). Where the folder tells what it holds, no outside call failed and memory was there, the
-/// ending is that of the run of the words over the held files. Nothing is written to `out` and to `err` yet.
+/// If it ends with status 0, each file that it wrote is the text of axioms that are the merged ones (`released`), and
+/// nothing else in the folder changed (`nothing_else`). Every other ending names its cause (`refused`, `misses`,
+/// `read_faults`, `write_faults`, `memory`). Where nothing outside failed and memory was there, it ends with status 0 or
+/// with the one refusal of the run (`complete`), and wrong words are refused in any case (`bad_words`). What is said of
+/// files is said over a folder that tells what it holds. Nothing is written to `out` and to `err` yet.
 pub fn release<F: Folder, O: Sink, E: Sink>(
     alloc: Global,
     words: &Vec<String>,
@@ -21,20 +23,20 @@ pub fn release<F: Folder, O: Sink, E: Sink>(
     out: &mut O,
     err: &mut E,
 ) -> Ended
-    ensures status { result.status ≡ status_of_ending result.fault }
-    ensures faulty { IsSome result.fault ↔ (result.status ≢ 0) }
-
     ensures released { Released (map string_bytes words.now.items) (F.state folder.old) result.fault (F.state folder.new) }
-    ensures done { Done (map string_bytes words.now.items) (F.state folder.old) result.fault (F.state folder.new) }
-    ensures refused { Refused (map string_bytes words.now.items) (F.state folder.old) result.fault (F.state folder.new) }
-    ensures complete { Complete (map string_bytes words.now.items) (F.state folder.old) (O.state out.old) result.fault (F.state folder.new) (O.state out.new) }
+    ensures nothing_else { NothingElse (map string_bytes words.now.items) (F.state folder.old) result.fault (F.state folder.new) }
 
-    ensures bad_words { BadWordsRefused (map string_bytes words.now.items) (F.state folder.old) result.fault (F.state folder.new) }
+    ensures refused { Refused (map string_bytes words.now.items) (F.state folder.old) result.fault (F.state folder.new) }
     ensures misses { MissesCounted (F.state folder.old) result.fault (F.state folder.new) }
     ensures read_faults { ReadFaults (map string_bytes words.now.items) (F.state folder.old) result.fault (F.state folder.new) }
     ensures write_faults { WriteFaults (map string_bytes words.now.items) (F.state folder.old) result.fault (F.state folder.new) }
     ensures memory { MemoryRanOut (map string_bytes words.now.items) (F.state folder.old) result.fault (F.state folder.new) }
 
+    ensures complete { Complete (map string_bytes words.now.items) (F.state folder.old) (O.state out.old) result.fault (F.state folder.new) (O.state out.new) }
+    ensures bad_words { BadWordsRefused (map string_bytes words.now.items) (F.state folder.old) result.fault (F.state folder.new) }
+
+    ensures status { result.status ≡ status_of_ending result.fault }
+    ensures faulty { IsSome result.fault ↔ (result.status ≢ 0) }
     ensures out { O.state out.new ≡ O.state out.old }
     ensures err { E.state err.new ≡ E.state err.old }
 {

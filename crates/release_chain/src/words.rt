@@ -29,8 +29,8 @@ pub fn read_words(alloc: Global, words: &[String]) -> Result<Paths, Fault>
     ensures { MatchResult result (λ paths. chain (map string_bytes words.now) ≡ Ok paths) (RefusesWords (map string_bytes words.now)) }
 {
     let (input, output) = find_paths(words)?;
-    let input = Bytes::from_vec(Vec::from_slice(alloc, input)?);
-    let output = Bytes::from_vec(Vec::from_slice(alloc, output)?);
+    let input = Bytes::from_slice(alloc, input)?;
+    let output = Bytes::from_slice(alloc, output)?;
     Ok(Paths { input, output })
 }
 

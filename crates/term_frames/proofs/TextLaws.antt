@@ -17,7 +17,7 @@ use Rattle.owl_axioms.specs.declared.body.Axiom.{Axiom}
 use Rattle.term_frames.specs.Built.{first_unbuilt, is_built, unbuilt_line}
 use Rattle.term_frames.specs.Clauses.{Placed, clause, clauses_of_file, first_named, header_of, ontology_name}
 use Rattle.term_frames.specs.Forms.{id_in, is_format_version, is_frame_line, is_name_byte, is_ontology_name, is_printable, ontology_in, parent_in, value_behind}
-use Rattle.term_frames.specs.Laws.{SaysTheSame, TextIsOfSet, TextReadsBack}
+use Rattle.term_frames.specs.Laws.{AxiomsAreSaid, SaysTheSame, TextIsOfSet, TextReadsBack}
 use Rattle.term_frames.specs.Lines.{Line, ended, lines_of, onto_first}
 use Rattle.term_frames.specs.Mapping.{axiom_of, clause_of, entry_of_clause, ontology_of}
 use Rattle.term_frames.specs.Text.{header_lines, lines_of_clause, lines_of_ontology, name_for, obo_text, only, rank, sorted_clauses}
@@ -150,6 +150,19 @@ file_holds lines one here =
     let added = map (entry_of_clause (space_of lines)) (clauses_of_file lines) in
     all_added_is_held [] added (axiom_of (space_of lines) one)
     (subst (λ axioms. Contains axioms (axiom_of (space_of lines) one)) (sym (axioms_of-entries (space_of lines) (clauses_of_file lines))) (mapped (axiom_of (space_of lines)) (clauses_from [] 1 lines) one here))
+
+-- in the words of the file
+pub axioms_are_said : (bytes : List ℕ) → AxiomsAreSaid bytes
+axioms_are_said bytes a =
+    let lines = lines_of bytes in (
+      (λ held.
+          let said = held_by_file lines a held in
+          let from = image (λ (placed : Placed). placed.clause) (clauses_of_file lines) said.x said.here in
+          record { placed = from.x; is_one = from.here; says = sym said.is ∙ ap (axiom_of (space_of lines)) (sym from.is) }),
+      (λ said.
+          subst (λ x. IsHeld x (ontology_of lines).entries) (sym said.says)
+          (file_holds lines said.placed.clause (mapped (λ (placed : Placed). placed.clause) (clauses_of_file lines) said.placed said.is_one))),
+    )
 
 -- the sorted clauses of a file's axioms are the clauses of the file
 abbrev file_sorted : List Line → List Clause

@@ -1,10 +1,12 @@
--- What the definitions of this crate amount to, in other words.
-use Rattle.std.specs.Prelude.{◌≡◌, ◌↔◌, ℕ, ◌+◌, ◌<◌, List, [], ◌∷◌, ◌++◌, Bool, IsTrue, IsFalse, MatchOption, None, drop, length, reverse, slice_index_or, take}
+-- What the definitions of this crate amount to, in other words. (Own.)
+use Rattle.std.specs.Prelude.{◌≡◌, ◌↔◌, ℕ, ◌+◌, ◌<◌, List, [], ◌∷◌, ◌++◌, Bool, Contains, IsTrue, IsFalse, MatchOption, None, drop, length, reverse, slice_index_or, take}
+use Rattle.iri_map.specs.Ontology.{name_or_temp}
 use Rattle.owl_ontology.specs.Ontology.{IsHeld, OntologyState}
 use Rattle.owl_axioms.specs.declared.body.Axiom.{Axiom}
 use Rattle.term_frames.specs.Built.{is_built, unbuilt_line}
+use Rattle.term_frames.specs.Clauses.{Placed, clauses_of_file, ontology_name}
 use Rattle.term_frames.specs.Lines.{Line, ended, lines_of}
-use Rattle.term_frames.specs.Mapping.{ontology_of}
+use Rattle.term_frames.specs.Mapping.{axiom_of, ontology_of}
 use Rattle.term_frames.specs.Text.{obo_text}
 
 -- whether the line at an index is built behind those before it, and before those behind it
@@ -30,6 +32,16 @@ RefusesLeastLine bytes = MatchOption (unbuilt_line (lines_of bytes)) (AllBuilt (
 -- the lines of a file that ends with an LF, each with its LF, are the file
 abbrev pub LinesAreWritten : List ℕ → Type 0
 LinesAreWritten bytes = ended (lines_of (bytes ++ 10 ∷ [])) ≡ bytes ++ 10 ∷ []
+
+-- a clause of the file says this axiom
+pub record IsSaid (lines : List Line) (a : Axiom) : Type 0 where
+  pub placed : Placed
+  pub is_one : Contains (clauses_of_file lines) placed
+  pub says : a ≡ axiom_of (name_or_temp (ontology_name lines)) placed.clause
+
+-- the axioms of a file are those that its clauses say, all of them and no other
+abbrev pub AxiomsAreSaid : List ℕ → Type 0
+AxiomsAreSaid bytes = (a : Axiom) → IsHeld a (ontology_of (lines_of bytes)).entries ↔ IsSaid (lines_of bytes) a
 
 -- two ontologies have one name and the same axioms, wherever these come from and in whatever order
 pub record SaysTheSame (one other : OntologyState) : Type 0 where

@@ -1,6 +1,7 @@
--- The canonical OBO text of an ontology: a function of its name and of the set of its axioms. The clauses of the axioms
--- are sorted by the id of their frame, by their tag, in the order in which a frame has them, and by their value; so the
--- clauses of a frame stand together, its id first. (OBO Flat File Format 1.4; the order and the layout are our own.)
+-- The canonical OBO text of an ontology whose axioms are those of lines that are built: a function of its name and of the
+-- set of its axioms. An axiom of another form has no text here. The clauses of the axioms are sorted by the id of their
+-- frame, by their tag, in the order in which a frame has them, and by their value; so the clauses of a frame stand
+-- together, its id first. (OBO Flat File Format 1.4; the order and the layout are our own.)
 use Rattle.std.specs.Prelude.{ℕ, ◌&&◌, Bool, if◌then◌else◌, List, [], ◌∷◌, ◌++◌, Option, Some, None, codes, nat_eq}
 use Rattle.std.specs.BTreeSet.{insert_key}
 use Rattle.std.specs.Cmp.Lexicographic.{slice_cmp}

@@ -1,5 +1,5 @@
 //! What the definitions of this crate amount to. Each law is the contract of a function that does nothing.
-ghost use Rattle.term_frames.specs.Laws.{LinesAreWritten, RefusesLeastLine, TextIsOfSet, TextReadsBack};
+ghost use Rattle.term_frames.specs.Laws.{AxiomsAreSaid, LinesAreWritten, RefusesLeastLine, TextIsOfSet, TextReadsBack};
 
 use owl_ontology::Ontology;
 
@@ -13,14 +13,19 @@ pub fn least_line_is_refused(bytes: &[u8])
     ensures { RefusesLeastLine bytes.now }
 {}
 
+/// The axioms of a file are those that its clauses say, all of them and no other.
+pub fn axioms_are_said(bytes: &[u8])
+    ensures { AxiomsAreSaid bytes.now }
+{}
+
 /// The text of an ontology is told by its name and the set of its axioms: in another order, and with other
 /// origins, they have the same text.
 pub fn text_is_of_set(one: &Ontology, other: &Ontology)
     ensures { TextIsOfSet one.now other.now }
 {}
 
-/// The text of the ontology of a file is built, is read as the same ontology, and its own text is this text
-/// again.
+/// The text of the ontology of a file that is built is built, too; it is read as the same ontology, and the text of
+/// what was read is this text again.
 pub fn text_reads_back(bytes: &[u8])
     ensures { TextReadsBack bytes.now }
 {}

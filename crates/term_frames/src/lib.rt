@@ -13,6 +13,8 @@ mod reader;
 mod text;
 
 pub use fault::TermsFault;
-pub use laws::{least_line_is_refused, lines_are_written, text_is_of_set, text_reads_back};
+pub use laws::{
+    axioms_are_said, least_line_is_refused, lines_are_written, text_is_of_set, text_reads_back,
+};
 pub use reader::read_ontology;
 pub use text::obo_text;

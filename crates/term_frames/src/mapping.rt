@@ -39,7 +39,7 @@ pub fn label(alloc: Global, space: &Bytes, id: &[u8], text: &[u8]) -> Result<Axi
 {
     let name = class_named(alloc, space, id)?;
     let property = label_property(alloc)?;
-    let text = Bytes::from_vec(Vec::from_slice(alloc, text)?);
+    let text = Bytes::from_slice(alloc, text)?;
     Ok(plain(alloc, Body::Note(name, property, NoteValue::Text(text))))
 }
 
@@ -64,7 +64,7 @@ pub fn subclass(alloc: Global, space: &Bytes, id: &[u8], parent: &[u8]) -> Resul
 fn label_property(alloc: Global) -> Result<Iri, NoMemory>
     ensures { IfOk result (λ property. property ≡ rdfs_label) }
 {
-    Ok(Iri::from_vec(Vec::from_slice(alloc, RDFS_LABEL)?))
+    Iri::from_slice(alloc, RDFS_LABEL)
 }
 
 /// An axiom without annotations.
@@ -94,7 +94,7 @@ fn class_named(alloc: Global, space: &Bytes, id: &[u8]) -> Result<Name, NoMemory
 fn iri_named(alloc: Global, space: &Bytes, id: &[u8]) -> Result<Iri, NoMemory>
     ensures { IfOk result (λ iri. iri ≡ id_iri.iri_of id.now space.now) }
 {
-    let id = Bytes::from_vec(Vec::from_slice(alloc, id)?);
+    let id = Bytes::from_slice(alloc, id)?;
     iri_of(alloc, &id, space)
 }
 

@@ -50,7 +50,7 @@ pub fn read_ontology(alloc: Global, bytes: &[u8]) -> Result<Ontology, TermsFault
 {
     let header = read_header(bytes)?;
     let name = match header.name {
-        Some(name) => Some(Bytes::from_vec(Vec::from_slice(alloc, name)?)),
+        Some(name) => Some(Bytes::from_slice(alloc, name)?),
         None => None,
     };
     let space = name_or_temp(alloc, name.as_ref())?;
