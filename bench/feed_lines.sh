@@ -1,19 +1,19 @@
 #!/usr/bin/env bash
 # Feeds texts of 10, 100 and 250 MB to a `LineFeeder`, and prints the time of each: lines of 40 bytes and one
 # single line, in pieces of 64 KB and of one byte. The time is to grow with the text alone. The program that
-# does it is proved and built in a temporary copy of the two crates, which is deleted at the end.
+# does it is proved and built in a temporary copy of the two crates, without their `out`, which is deleted at the end.
 set -e
 top=$(cd "$(dirname "$0")/.." && pwd)
 copy=$(mktemp -d)
 trap 'rm -rf "$copy"' EXIT
 mkdir -p "$copy/crates/feed_lines"
-cp -a "$top/crates/rel_io" "$top/crates/obo_lexer" "$copy/crates/"
+for crate in rel_io obo_lexer; do
+  mkdir "$copy/crates/$crate"
+  cp -a "$top/crates/$crate"/{src,specs,proofs} "$copy/crates/$crate/"
+done
 cp "$top/HANDLES" "$copy/"
-cat > "$copy/crates.txt" <<'END'
-rel_io:
-obo_lexer: rel_io memchr simdutf8
-feed_lines: rel_io obo_lexer
-END
+grep -E '^(rel_io|obo_lexer):' "$top/crates.txt" > "$copy/crates.txt"
+echo 'feed_lines: rel_io obo_lexer' >> "$copy/crates.txt"
 cd "$copy/crates/feed_lines"
 mkdir -p src specs proofs/count_lines proofs/drain proofs/text_of
 touch specs/Lib.antt proofs/Lib.antt
@@ -81,7 +81,8 @@ fn timed(rt: &(impl Print + Alloc<A = Global> + Clock), part: &[u8], len: usize,
 {
     let text = text_of(rt.alloc(), part, len).map_err(|_| io::Error::from(io::ErrorKind::OutOfMemory))?;
     let start = Instant::now(rt)?;
-    let count = count_lines(rt.alloc(), text.as_slice(), size).unwrap_or(0);
+    let count = count_lines(rt.alloc(), text.as_slice(), size)
+        .map_err(|_| io::Error::from(io::ErrorKind::OutOfMemory))?;
     let spent = start.elapsed(rt)?.as_millis();
     println!(rt; "{len} bytes in pieces of {size}: {count} lines, {spent} ms")
 }
@@ -131,4 +132,8 @@ abbrev pub invariant-loop : goal.invariant-loop
 invariant-loop l = length l.text.items ≤ l.len
 END
 
-rt run 2>&1 | grep " bytes in pieces of "
+if ! rt run > "$copy/log" 2>&1 </dev/null; then
+  tail -n 20 "$copy/log" >&2
+  exit 1
+fi
+grep " bytes in pieces of " "$copy/log"

@@ -1,13 +1,16 @@
 #!/usr/bin/env bash
 # Reads hostile lines of 100,000 and 1,000,000 bytes, and prints the time of each: ten times the bytes are to take some ten
 # times as long, whatever stands in the line. The program that does it is proved and built in a temporary copy of the crates,
-# which is deleted at the end.
+# without their `out`, which is deleted at the end.
 set -e
 top=$(cd "$(dirname "$0")/.." && pwd)
 copy=$(mktemp -d)
 trap 'rm -rf "$copy"' EXIT
 mkdir -p "$copy/crates/read_lines"
-for crate in rel_io obo_tags obo_lexer obo_clause clause_reader; do cp -a "$top/crates/$crate" "$copy/crates/"; done
+for crate in rel_io obo_tags obo_lexer obo_clause clause_reader; do
+  mkdir "$copy/crates/$crate"
+  cp -a "$top/crates/$crate"/{src,specs,proofs} "$copy/crates/$crate/"
+done
 cp "$top/HANDLES" "$copy/"
 grep -E '^(rel_io|obo_tags|obo_lexer|obo_clause|clause_reader):' "$top/crates.txt" > "$copy/crates.txt"
 echo 'read_lines: rel_io obo_tags obo_clause clause_reader' >> "$copy/crates.txt"
@@ -43,7 +46,7 @@ const LINES: [(&[u8], &[u8]); 12] = [
     (b"foo: ", b"! {"),
 ];
 
-/// A line of so many bytes, or a few less: a beginning, and equal parts behind it.
+/// A line of so many bytes, or a few more: a beginning, and equal parts behind it.
 fn line_of(alloc: Global, start: &[u8], part: &[u8], len: usize) -> Result<Bytes, NoMemory> {
     let mut line = Vec::with_capacity(alloc, len)?;
     line.extend_from_slice(start)?;

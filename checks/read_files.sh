@@ -1,10 +1,12 @@
 #!/usr/bin/env bash
 # checks/read_files.sh FOLDER  reads each OBO file of the folder, and prints its first fault or how many frames it has.
-# Where there is no such folder nothing is checked. The program that does it reads by the same `read_document` as `robot`,
-# which writes no faults yet; it is proved and built in a temporary copy of the crates, which is deleted at the end.
+# Where there is no such folder nothing is checked, and the status is 0. The program that does it reads by the same
+# `read_document` as `robot`, which writes no faults yet; it is proved and built in a temporary copy of the crates, without
+# their `out`, which is deleted at the end.
 set -e
 if [ $# -ne 1 ]; then
   echo "usage: checks/read_files.sh FOLDER" >&2
+  echo "Where there is no such folder, it says so, checks nothing, and ends with status 0." >&2
   exit 2
 fi
 if [ ! -d "$1" ]; then
@@ -17,7 +19,10 @@ copy=$(mktemp -d)
 trap 'rm -rf "$copy"' EXIT
 below='rel_io iri_map obo_tags obo_lexer obo_clause clause_reader obo_frames'
 mkdir -p "$copy/crates/read_files"
-for crate in $below; do cp -a "$top/crates/$crate" "$copy/crates/"; done
+for crate in $below; do
+  mkdir "$copy/crates/$crate"
+  cp -a "$top/crates/$crate"/{src,specs,proofs} "$copy/crates/$crate/"
+done
 cp "$top/HANDLES" "$copy/"
 for crate in $below; do grep "^$crate:" "$top/crates.txt"; done > "$copy/crates.txt"
 echo 'read_files: rel_io obo_tags obo_clause obo_frames' >> "$copy/crates.txt"
@@ -80,4 +85,4 @@ if [ ! -x out/read_files ]; then
   exit 1
 fi
 cd "$folder"
-find . -maxdepth 1 -name '*.obo' -printf '%P\0' | sort -z | xargs -0 -r "$copy/crates/read_files/out/read_files"
+find . -maxdepth 1 -type f -name '*.obo' -printf '%P\0' | LC_ALL=C sort -z | xargs -0 -r "$copy/crates/read_files/out/read_files"
