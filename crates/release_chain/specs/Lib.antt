@@ -1,5 +1,6 @@
 pub mod Ending
 pub mod Fault
+pub mod Laws
 pub mod ReadFile
 pub mod Release
 pub mod Run

@@ -13,10 +13,10 @@ use std::alloc::Global;
 use term_frames::{TermsFault, obo_text, read_ontology};
 
 /// The most bytes that the files of a chain have together.
-const BYTE_LIMIT: u64 = 268435456;
+const BYTE_LIMIT: u64 = 268_435_456;
 
 /// The most bytes that a line has.
-const LINE_LIMIT: u32 = 1048576;
+const LINE_LIMIT: u32 = 1_048_576;
 
 /// Runs the chain of these words in a folder.
 pub fn run_words<F: Folder>(alloc: Global, words: &[String], folder: &mut F) -> Result<(), Fault>

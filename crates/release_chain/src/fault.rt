@@ -26,57 +26,77 @@ pub enum WordKind {
 /// What ended a chain before its end.
 #[derive(Debug, PartialEq, Eq, Drop)]
 pub enum Fault {
-    /// The first word that departs from the form of a chain: its index, from 0 behind the program's name.
+    /// The first word that departs from the form of a chain.
     BadWord {
+        /// Its index, from 0 behind the program's name.
         index: u32,
+        /// Why it is refused.
         kind: WordKind,
     },
     /// The input is not there.
     MissingInput {
+        /// The name of the file.
         name: Bytes,
     },
     /// The input has more bytes than the limit.
     TooManyBytes {
+        /// The name of the file.
         name: Bytes,
+        /// The limit.
         limit: u64,
     },
-    /// The line of the file, from 1, is not UTF-8.
+    /// The line of the file is not UTF-8.
     NotUtf8 {
+        /// The name of the file.
         file: Bytes,
+        /// The line, from 1.
         line: u32,
     },
     /// The line of the file has more bytes than a line may have.
     LineTooLong {
+        /// The name of the file.
         file: Bytes,
+        /// The line, from 1.
         line: u32,
     },
     /// The line of the file is none of OBO, and why.
     Syntax {
+        /// The name of the file.
         file: Bytes,
+        /// The line, from 1.
         line: u32,
+        /// What is wrong with the line.
         kind: SyntaxKind,
     },
     /// The frame that begins at the line of the file has no `id` clause as its first clause.
     NoId {
+        /// The name of the file.
         file: Bytes,
+        /// The line, from 1.
         line: u32,
     },
     /// The group of a Term whose first clause stands at the line of the file has clauses for one expression alone.
     ShortGroup {
+        /// The name of the file.
         file: Bytes,
+        /// The line, from 1.
         line: u32,
     },
-    /// The least line of a file, from 1, whose form is not built yet.
+    /// The least line of the file whose form is not built yet.
     LineNotBuilt {
+        /// The name of the file.
         file: Bytes,
+        /// The line, from 1.
         line: u32,
     },
     /// The file could not be opened or read.
     ReadFault {
+        /// The name of the file.
         name: Bytes,
     },
     /// The file could not be written; nothing is known of it.
     WriteFault {
+        /// The name of the file.
         name: Bytes,
     },
     /// Memory ran out.

@@ -8,7 +8,7 @@ use rel_io::{Bytes, Folder, Got, Opened};
 use std::alloc::{AllocError, Global};
 
 /// How many bytes each read is given room for.
-const PIECE: usize = 65536;
+const PIECE: usize = 65_536;
 
 /// Why a file was not read.
 #[derive(Clone, Copy, Debug, PartialEq, Eq)]

@@ -1,4 +1,6 @@
 //! Whole runs over a folder and sinks in memory, with endings worked out by hand from the rules.
+ghost use Rattle.std.specs.Prelude.{◌≤◌};
+
 use crate::{Ended, Fault, FileFault, read_file, release};
 use rel_io::{Bytes, Dup, MemFolder, MemSink, NoMemory};
 use std::alloc::{AllocError, Global};
@@ -173,7 +175,9 @@ fn folder_of(
     file: Bytes,
     piece: usize,
     failing: &[u64],
-) -> Result<MemFolder, NoMemory> {
+) -> Result<MemFolder, NoMemory>
+    requires { 1 ≤ piece }
+{
     let mut files = Vec::new(alloc);
     files.push((Bytes::from_slice(alloc, b"a.obo")?, file))?;
     Ok(MemFolder::new(alloc, files, piece, Vec::from_slice(alloc, failing)?))

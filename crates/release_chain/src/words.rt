@@ -10,17 +10,21 @@ use crate::{Fault, WordKind};
 use rel_io::Bytes;
 use std::alloc::Global;
 
-/// The first word that departs from the chain: its index, from 0, and why it is wrong.
+/// The first word that departs from the chain.
 #[derive(Clone, Copy, Debug)]
 pub struct WrongWord {
+    /// Its index, from 0 behind the program's name.
     pub index: u32,
+    /// Why it is wrong.
     pub kind: WordKind,
 }
 
 /// The names of the files of a chain.
 #[derive(Debug, Drop)]
 pub struct Paths {
+    /// The name of the input.
     pub input: Bytes,
+    /// The name of the output.
     pub output: Bytes,
 }
 
@@ -123,10 +127,7 @@ fn expect_end(words: &[String]) -> Result<(), WrongWord>
 fn word_at(words: &[String], index: usize) -> Option<&[u8]>
     ensures { option_copied result ≡ slice_get (map string_bytes words.now) index }
 {
-    match words.get(index) {
-        Some(word) => Some(word.as_bytes()),
-        None => None,
-    }
+    Some(words.get(index)?.as_bytes())
 }
 
 /// The word at an index is wrong.

@@ -1,4 +1,4 @@
--- The forms of line that are built so far, each by itself. (OBO Flat File Format 1.4, the document header, the stanza
+-- The forms of line that are built so far, each by itself. (OBO Flat File Format 1.4, the document header, the frame
 -- lines and the tags `id`, `name` and `is_a`; which forms are built is our own.)
 use Rattle.std.specs.Prelude.{ℕ, ◌==◌, ◌&&◌, ◌||◌, Bool, if◌then◌else◌, List, Option, Some, None, codes, length, nat_eq, nat_le, not}
 use Rattle.std.specs.List.{ends_with, list_all, starts_with}

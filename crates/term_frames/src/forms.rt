@@ -6,16 +6,22 @@ ghost use Rattle.term_frames.specs.Forms as spec;
 
 use iri_map::{is_canonical_id, split_at_first};
 
+/// What a line with the version of the format begins with.
 const FORMAT_VERSION: &[u8; 16] = b"format-version: ";
 
+/// What a line with the name of the ontology begins with.
 const ONTOLOGY: &[u8; 10] = b"ontology: ";
 
+/// The line that begins a frame.
 const TERM: &[u8; 6] = b"[Term]";
 
+/// What a line with the id of a frame begins with.
 const ID: &[u8; 4] = b"id: ";
 
+/// What a line with the name of a frame begins with.
 const NAME: &[u8; 6] = b"name: ";
 
+/// What a line with a parent begins with.
 const IS_A: &[u8; 6] = b"is_a: ";
 
 /// Whether a line has printable bytes alone, those from space to tilde.

@@ -4,7 +4,8 @@ ghost use Rattle.term_frames.specs.Lines.{lines_of};
 
 use memchr::memchr;
 
-const LINE_FEED: u8 = 10;
+/// The byte that ends a line.
+const LINE_FEED: u8 = b'\n';
 
 /// The first line, without its end, and the bytes behind it.
 pub fn split_line(bytes: &[u8]) -> (&[u8], &[u8])

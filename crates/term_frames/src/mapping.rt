@@ -103,7 +103,7 @@ fn iri_named(alloc: Global, space: &Bytes, id: &[u8]) -> Result<Iri, NoMemory>
 pub fn clause_of(alloc: Global, space: &Bytes, one: &Axiom) -> Result<Option<Clause>, NoMemory>
     ensures { IfOk result (λ found. found ≡ spec.clause_of space.now one.now) }
 {
-    if one.sides.as_slice().len() != 0 {
+    if !one.sides.as_slice().is_empty() {
         return Ok(None);
     }
     match &one.body {
