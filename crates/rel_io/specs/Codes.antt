@@ -1,4 +1,4 @@
--- How the states of folders are kept as data: each as the tuple of its fields. No contract speaks of it.
+-- How the states of folders are kept as data: each as the tuple of its fields. No contract speaks of it. (Own.)
 use Rattle.std.specs.Prelude.{ℕ, Bool, List, Option, refl}
 use Rattle.std.specs.Coded.{Coded, code_by, coded×, coded_bool, coded_list, coded_option, coded_ℕ}
 use Rattle.std.specs.FinMap as map

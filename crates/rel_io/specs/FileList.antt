@@ -36,7 +36,8 @@ pub record IsAbsent (files : FileList) (name : List ℕ) : Type 0 where
   pub not_held : get (files_of files) name ≡ None
   pub added : (bytes : List ℕ) → files_of (files ++ (name, bytes) ∷ []) ≡ insert (files_of files) name bytes
 
--- a place, and how many bytes of the file there were read: it is the first of its name, and no more was read than it has
+-- a place, and how many bytes of the file there were read: it is the first of its name, and no more was read
+-- than it has
 abbrev pub IsOpenAt : FileList → ℕ × ℕ → Type 0
 IsOpenAt files at = (at.0 < length files) × (get (files_of files) (name_at files at.0) ≡ Some (bytes_at files at.0)) × (at.1 ≤ length (bytes_at files at.0))
 

@@ -1,24 +1,15 @@
 //! `Iri`: the name of an entity on the web, seen as the list of its bytes.
-ghost use Rattle.std.specs.Prelude.{◌≡◌, IfOk, nat_eq, refl};
-ghost use Rattle.std.specs.Cmp.{partial_equiv_from_equiv};
-ghost use Rattle.std.specs.Cmp.Lexicographic.{pointwise, slice_cmp, texts_po, texts_ties};
-ghost use Rattle.std.specs.Cmp.Rules.{hashing};
-ghost use Rattle.std.specs.Hash as fed;
-ghost use Rattle.std.specs.Ordering.{as_partial_cmp, nat_cmp};
-ghost use Rattle.std.proofs.Common.{rules};
-ghost use Rattle.std.proofs.lemmas.Cmp.{nat_list_cmp_total, nat_list_eq_equiv};
+ghost use Rattle.std.specs.Prelude.{◌≡◌, IfOk};
 
-use crate::{Dup, NoMemory};
+use crate::{Bytes, Dup, NoMemory};
 use std::alloc::Global;
-use std::cmp::Ordering;
-use std::hash::{Hash, Hasher};
 use std::marker::Model;
 
 /// The IRI of a class, a role, an individual, an annotation property or a datatype (OWL 2 Structural
 /// Specification, section 2.4), ordered byte by byte. The type itself keeps any bytes.
-#[derive(Debug, Drop)]
+#[derive(Debug, PartialEq, Eq, PartialOrd, Ord, Hash, Drop)]
 pub struct Iri {
-    items: Vec<u8>,
+    text: Bytes,
 }
 
 impl Model for Iri {
@@ -26,7 +17,9 @@ impl Model for Iri {
 
     ghost Value = { List ℕ };
 
-    ghost view = { λ b. b.items.items };
+    ghost view = { λ iri. iri.text };
+
+    ghost inverse = { λ bytes. record { text = bytes } };
 }
 
 impl Iri {
@@ -34,83 +27,38 @@ impl Iri {
     pub fn from_vec(items: Vec<u8>) -> Iri
         ensures { result ≡ items.items }
     {
-        Iri { items }
+        Iri {
+            text: Bytes::from_vec(items),
+        }
     }
 
     /// The bytes of a slice, copied.
     pub fn from_slice(alloc: Global, bytes: &[u8]) -> Result<Iri, NoMemory>
         ensures { IfOk result (λ copied. copied ≡ bytes.now) }
     {
-        let items = Vec::from_slice(alloc, bytes)?;
-        Ok(Iri { items })
+        let text = Bytes::from_slice(alloc, bytes)?;
+        Ok(Iri { text })
     }
 
     /// Gives the bytes back, without memory.
     pub fn into_vec(self) -> Vec<u8>
         ensures { result.items ≡ self }
     {
-        let Iri { items } = self;
-        items
+        let Iri { text } = self;
+        text.into_vec()
     }
 
     /// The bytes, lent.
     pub fn as_slice(&self) -> &[u8]
         ensures { result.now ≡ self.now }
     {
-        self.items.as_slice()
+        self.text.as_slice()
     }
 }
 
 impl Dup for Iri {
     fn copy(&self, alloc: Global) -> Result<Iri, NoMemory> {
-        Iri::from_slice(alloc, self.items.as_slice())
-    }
-}
-
-impl PartialEq for Iri {
-    ghost eq = { pointwise nat_eq };
-
-    ghost laws = { partial_equiv_from_equiv nat_list_eq_equiv };
-
-    fn eq(&self, other: &Iri) -> bool {
-        self.items.as_slice() == other.items.as_slice()
-    }
-}
-
-impl Eq for Iri {
-    ghost laws = { nat_list_eq_equiv };
-}
-
-impl PartialOrd for Iri {
-    ghost partial_cmp = { as_partial_cmp (slice_cmp nat_cmp) };
-
-    ghost laws = { texts_po };
-
-    fn partial_cmp(&self, other: &Iri) -> Option<Ordering> {
-        Some(self.cmp(other))
-    }
-}
-
-impl Ord for Iri {
-    ghost cmp = { slice_cmp nat_cmp };
-
-    ghost total = { nat_list_cmp_total };
-
-    ghost matches_partial_cmp = { λ x y. refl };
-
-    ghost matches_eq = { texts_ties };
-
-    fn cmp(&self, other: &Iri) -> Ordering {
-        self.items.as_slice().cmp(other.items.as_slice())
-    }
-}
-
-impl Hash for Iri {
-    ghost hash_input = { fed.slice fed.u8 };
-
-    ghost respects_eq = { Prim.search (hashing, rules) };
-
-    fn hash<H: Hasher>(&self, state: &mut H) {
-        self.items.as_slice().hash(state);
+        let text = self.text.copy(alloc)?;
+        Ok(Iri { text })
     }
 }

@@ -13,6 +13,8 @@ mod mem_folder;
 mod mem_sink;
 mod memory;
 mod sink;
+#[cfg(test)]
+mod tests;
 
 pub use boxed::Boxed;
 pub use bytes::Bytes;
@@ -24,6 +26,3 @@ pub use mem_folder::MemFolder;
 pub use mem_sink::MemSink;
 pub use memory::NoMemory;
 pub use sink::{Sink, SinkFailed};
-
-#[cfg(test)]
-mod tests;

@@ -91,10 +91,8 @@ impl MemFolder {
     pub fn held(&self, name: &[u8]) -> Option<&[u8]>
         ensures { option_copied result ≡ get self.now.files name.now }
     {
-        match find_file(&self.files, name) {
-            Some(at) => Some(content(&self.files, at)),
-            None => None,
-        }
+        let at = find_file(&self.files, name)?;
+        Some(content(&self.files, at))
     }
 }
 
@@ -225,8 +223,8 @@ fn put_file(
     ensures err { OnErr result (files.new.items ≡ files.old.items) }
 {
     let file = (
-        Bytes::from_vec(Vec::from_slice(alloc, name)?),
-        Bytes::from_vec(Vec::from_slice(alloc, bytes)?),
+        Bytes::from_slice(alloc, name)?,
+        Bytes::from_slice(alloc, bytes)?,
     );
     match find_file(files, name) {
         Some(at) => files[at] = file,

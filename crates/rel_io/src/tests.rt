@@ -16,11 +16,11 @@ enum Tree {
 }
 
 fn bytes(alloc: Global, text: &str) -> Result<Bytes, NoMemory> {
-    Ok(Bytes::from_vec(Vec::from_slice(alloc, text.as_bytes())?))
+    Bytes::from_slice(alloc, text.as_bytes())
 }
 
 fn iri(alloc: Global, text: &str) -> Result<Iri, NoMemory> {
-    Ok(Iri::from_vec(Vec::from_slice(alloc, text.as_bytes())?))
+    Iri::from_slice(alloc, text.as_bytes())
 }
 
 /// And(leaf, Not(leaf))
@@ -34,6 +34,12 @@ fn leaf_and_not(alloc: Global, text: &str) -> Result<Tree, NoMemory> {
 #[test]
 fn copies_are_equal(rt: HostRuntime) -> Result<(), Fail> {
     let alloc = rt.alloc();
+    let numbers = (
+        (1u8, 2u16, 3u128),
+        (4usize, -5i8, -6i16),
+        (-7i32, -8i64, (-9i128, -10isize)),
+    );
+    assert_eq!(rt; numbers.copy(alloc)?, numbers);
     let pair = (bytes(alloc, "a b")?, 7u32);
     assert_eq!(rt; pair.copy(alloc)?, pair);
     let triple = (true, iri(alloc, "http://a.b/c")?, Some(9u64));
