@@ -1,4 +1,5 @@
--- The id of an IRI: the first of four candidates, each one form of an id read backwards, that is readable and whose IRI is the one given.
+-- The id of an IRI: the first of four candidates, each one form of an id read backwards, that is readable and whose
+-- IRI is the one given. (Own.)
 use Rattle.std.specs.Prelude.{◌≢◌, ℕ, Bool, ◌&&◌, IsTrue, List, [], ◌∷◌, ◌++◌, codes, Option, Some}
 use Rattle.std.specs.List.{filter_map, find}
 use Rattle.std.specs.Option.{option_map, option_and_then}

@@ -1,4 +1,5 @@
--- Percent-escapes in IRIs: which bytes stay as they are, and `%` with two upper-case hexadecimal digits for every other byte (RFC 3986, section 2.1).
+-- Percent-escapes in IRIs: which bytes stay as they are, and `%` with two upper-case hexadecimal digits for every other
+-- byte (RFC 3986, section 2.1).
 use Rattle.std.specs.Prelude.{ℕ, Bool, not, ◌&&◌, ◌||◌, ◌==◌, List, [], ◌∷◌, codes, if◌then◌else◌}
 use Rattle.std.specs.Char.{is_ascii_alphanumeric, is_ascii_graphic}
 use Rattle.std.specs.List.{flat_map, list_any}
@@ -12,7 +13,8 @@ holds_byte text b = list_any (λ c. c == b) text
 abbrev pub stays_in_part : ℕ → Bool
 stays_in_part b = is_ascii_alphanumeric b || holds_byte (codes "-._~/") b
 
--- what stays in a URL: the printable ASCII bytes behind the space, `%` among them, without the nine here that no URI has (RFC 3986, section 2)
+-- what stays in a URL: the printable ASCII bytes behind the space, `%` among them, without the nine here that no URI
+-- has (RFC 3986, section 2)
 abbrev pub stays_in_url : ℕ → Bool
 stays_in_url b = is_ascii_graphic b && not (holds_byte (codes "\"<>\\^`{|}") b)
 

@@ -1,4 +1,5 @@
--- Ids of OBO files and the IRIs that they name, by four forms of an id (after the identifiers of the OBO Flat File Format 1.4).
+-- Ids of OBO files and the IRIs that they name, by four forms of an id
+-- (after the identifiers of the OBO Flat File Format 1.4).
 use Rattle.std.specs.Prelude.{ℕ, Bool, false, not, ◌&&◌, ◌||◌, ◌==◌, nat_eq, length, List, [], ◌∷◌, ◌++◌, codes, if◌then◌else◌, Option, Some, None, unwrap_or}
 use Rattle.std.specs.Char.{is_ascii_alphabetic, is_ascii_alphanumeric, is_ascii_digit}
 use Rattle.std.specs.List.{list_all, starts_with}
@@ -6,7 +7,7 @@ use Rattle.std.specs.Option.{option_map, option_map_or, option_and_then, option_
 use Rattle.iri_map.specs.Escape.{escaped_part, escaped_url}
 use Rattle.iri_map.specs.Split.{Parts, split_at_first}
 
--- what all IRIs of OBO ids begin with
+-- what the IRI of an id that is no URL begins with
 unfoldable pub base : List ℕ
 base = codes "http://purl.obolibrary.org/obo/"
 

@@ -1,4 +1,4 @@
--- What the layers above use of ids and IRIs: laws over all ids, IRIs and names of ontologies.
+-- What the layers above use of ids and IRIs: laws over all ids, IRIs and names of ontologies. (Own.)
 use Rattle.std.specs.Prelude.{◌≡◌, ℕ, List, ◌∷◌, ◌++◌, codes, Contains, IsTrue, IsFalse, IfSome, IsSome, Some}
 use Rattle.std.specs.List.{AllPass}
 use Rattle.iri_map.specs.Escape.{escaped_part, escaped_url, holds_byte, stays_in_url}

@@ -1,4 +1,5 @@
--- The name of an ontology: the IRI that a value of the header tag `ontology` gives, and the one spelling, the normalised value, of all values that give one IRI.
+-- The name of an ontology: the IRI that a value of the header tag `ontology` gives, and the one spelling, the
+-- normalised value, of all values that give one IRI. (Own, after the identifiers of the OBO Flat File Format 1.4.)
 use Rattle.std.specs.Prelude.{◌≡◌, ℕ, Bool, not, ◌&&◌, List, ◌++◌, codes, if◌then◌else◌, IsTrue, Option, unwrap_or}
 use Rattle.std.specs.List.{find}
 use Rattle.std.specs.Option.{option_map, option_and_then, option_to_list}

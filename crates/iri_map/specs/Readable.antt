@@ -1,4 +1,5 @@
 -- The texts that can stand as a name in a line of an OBO file.
+-- (Own, after the OBO Flat File Format 1.4, the file's structure.)
 use Rattle.std.specs.Prelude.{ℕ, Bool, not, ◌&&◌, ◌==◌, List, length}
 use Rattle.std.specs.Str.{is_utf8}
 use Rattle.iri_map.specs.Escape.{holds_byte}

@@ -1,4 +1,4 @@
--- The two parts of a text around a separator, and what stands behind a beginning or before an end.
+-- The two parts of a text around a separator, and what stands behind a beginning or before an end. (Own.)
 use Rattle.std.specs.Prelude.{ℕ, ◌-◌, ◌==◌, nat_eq, List, [], ◌∷◌, length, take, drop, if◌then◌else◌, Option, Some, None}
 use Rattle.std.specs.Borrow.{Bor}
 use Rattle.std.specs.List.{starts_with, ends_with}

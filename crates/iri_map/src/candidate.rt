@@ -35,8 +35,8 @@ pub fn id_of(alloc: Global, iri: &Iri, ontology: &Bytes) -> Result<Option<Bytes>
     if let Some(id) = fitting(alloc, plain, iri, ontology)? {
         return Ok(Some(id));
     }
-    let url = Vec::from_slice(alloc, iri.as_slice())?;
-    fitting(alloc, Some(Bytes::from_vec(url)), iri, ontology)
+    let url = Bytes::from_slice(alloc, iri.as_slice())?;
+    fitting(alloc, Some(url), iri, ontology)
 }
 
 /// The candidate, where it is readable and names this IRI.
@@ -79,7 +79,7 @@ fn canonical_candidate(alloc: Global, iri: &[u8]) -> Result<Option<Bytes>, NoMem
     Ok(Some(Bytes::from_vec(id)))
 }
 
-/// What follows the base, with its first `#_` read as `:` and both parts decoded.
+/// What follows the base, split at its first `#`, which `_` must follow: both parts decoded, around a `:`.
 fn prefixed_candidate(alloc: Global, iri: &[u8]) -> Result<Option<Bytes>, NoMemory>
     ensures { IfOk result (λ id. id ≡ spec.prefixed_candidate iri.now) }
 {

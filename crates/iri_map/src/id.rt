@@ -12,7 +12,7 @@ use crate::split::{after_start, split_at_first};
 use rel_io::{Bytes, Iri, NoMemory};
 use std::alloc::Global;
 
-/// What all IRIs of OBO ids begin with.
+/// What the IRI of an id that is no URL begins with.
 const BASE: &[u8] = b"http://purl.obolibrary.org/obo/";
 
 /// The IRI of an id, as it is read in an ontology of this name, by the first form that fits: a URL names

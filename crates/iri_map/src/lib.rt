@@ -1,7 +1,8 @@
 //! Ids and IRIs. An id of an OBO file and the name of its ontology give an IRI, and an IRI gives the one id
-//! that the layers above write for it. Each call here is a definition of `specs/`, for every input: the
-//! layers above speak of `iri_of`, `id_of`, `ontology_iri` and `ontology_value`, and use of them what
-//! `laws` says.
+//! that the layers above write for it. Each call here is a definition of `specs/`, for every input. The
+//! layers above read and write ids by `iri_of` and `id_of` in an ontology of the name that `name_or_temp`
+//! gives, name ontologies by `ontology_iri` and `ontology_value`, and use of these four what `laws` says;
+//! `is_canonical_id` and `split_at_first` tell and cut ids for them.
 #![tactic(auto)]
 
 mod candidate;
@@ -11,6 +12,8 @@ mod laws;
 mod ontology;
 mod readable;
 mod split;
+#[cfg(test)]
+mod tests;
 
 pub use candidate::id_of;
 pub use id::{iri_of, is_canonical_id};
@@ -20,6 +23,3 @@ pub use laws::{
 };
 pub use ontology::{name_or_temp, ontology_iri, ontology_value};
 pub use split::split_at_first;
-
-#[cfg(test)]
-mod tests;

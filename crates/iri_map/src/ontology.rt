@@ -21,10 +21,7 @@ pub fn name_or_temp(alloc: Global, name: Option<&Bytes>) -> Result<Bytes, NoMemo
 {
     match name {
         Some(name) => name.copy(alloc),
-        None => {
-            let temp = Vec::from_slice(alloc, TEMP)?;
-            Ok(Bytes::from_vec(temp))
-        }
+        None => Bytes::from_slice(alloc, TEMP),
     }
 }
 
@@ -52,8 +49,7 @@ pub fn ontology_value(alloc: Global, iri: &Iri) -> Result<Bytes, NoMemory>
     if let Some(name) = short_name(alloc, candidate, iri)? {
         return Ok(name);
     }
-    let value = Vec::from_slice(alloc, iri.as_slice())?;
-    Ok(Bytes::from_vec(value))
+    Bytes::from_slice(alloc, iri.as_slice())
 }
 
 /// The base, the name and `.owl`.

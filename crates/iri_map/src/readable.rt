@@ -3,8 +3,6 @@ ghost use Rattle.std.specs.Prelude.{◌≡◌};
 ghost use Rattle.std.specs.Str.{is_utf8};
 ghost use Rattle.iri_map.specs.Readable.{is_readable};
 
-use std::str;
-
 /// Whether the text is not empty, UTF-8 and without a carriage return.
 #[tactic(auto, unfolding(crate::specs::Readable::is_readable))]
 pub fn is_readable(text: &[u8]) -> bool
@@ -17,8 +15,5 @@ pub fn is_readable(text: &[u8]) -> bool
 fn is_utf8(text: &[u8]) -> bool
     ensures { result ≡ is_utf8 text.now }
 {
-    match str::from_utf8(text) {
-        Ok(_) => true,
-        Err(_) => false,
-    }
+    simdutf8::is_utf8(text)
 }

@@ -201,11 +201,11 @@ static ONTOLOGIES: [(&[u8], &str, &[u8]); 13] = [
 ];
 
 fn bytes(alloc: Global, text: &[u8]) -> Result<Bytes, NoMemory> {
-    Ok(Bytes::from_vec(Vec::from_slice(alloc, text)?))
+    Bytes::from_slice(alloc, text)
 }
 
 fn iri(alloc: Global, text: &str) -> Result<Iri, NoMemory> {
-    Ok(Iri::from_vec(Vec::from_slice(alloc, text.as_bytes())?))
+    Iri::from_slice(alloc, text.as_bytes())
 }
 
 /// Whether the id names this IRI, which is written by `back`.
