@@ -1,4 +1,4 @@
--- How a feeder goes on: what it is after a piece, after the end of the file and after it met want of memory.
+-- How a feeder goes on: what it is after a piece, after the end of the file and after it met want of memory. (Own.)
 use Rattle.std.specs.Prelude.{ℕ, ◌+◌, ◌==◌, Bool, true, false, List, [], ◌∷◌, ◌++◌, length, if◌then◌else◌}
 use Rattle.obo_lexer.specs.declared.line.LineItem.{LineItem}
 use Rattle.obo_lexer.specs.Items.{body_of}

@@ -1,4 +1,4 @@
--- The lines of a file as they are handed on: numbered from 1, each with its text or what is wrong with it.
+-- The lines of a file as they are handed on: numbered from 1, each with its text or what is wrong with it. (Own.)
 use Rattle.std.specs.Prelude.{◌≡◌, ℕ, ◌+◌, ◌≤◌, false, List, [], ◌∷◌, length, nat_lt, if◌then◌else◌}
 use Rattle.std.specs.List.{list_any}
 use Rattle.std.specs.Str.{IsUtf8, is_utf8}

@@ -1,4 +1,4 @@
--- What the definitions of lines and of feeders amount to.
+-- What the definitions of lines and of feeders amount to. (Own.)
 use Rattle.std.specs.Prelude.{◌≡◌, ℕ, List, [], ◌∷◌, ◌++◌}
 use Rattle.std.specs.List.{All}
 use Rattle.obo_lexer.specs.declared.line.LineItem.{LineItem}

@@ -1,4 +1,5 @@
--- The tokens of a line, by the places in it.
+-- The tokens of a line, by the places in it: blanks, marks, escaped characters, and the text between them
+-- (OBO Flat File Format 1.4, whitespace, escape characters and the characters with a meaning in clauses).
 use Rattle.std.specs.Prelude.{◌≡◌, ℕ, ◌+◌, ◌<◌, ◌≤◌, ◌==◌, Bool, false, not, ◌||◌, ◌&&◌, List, [], ◌∷◌, length, nat_le, nat_lt, slice_index, IsTrue}
 use Rattle.std.specs.List.{list_any}
 use Rattle.obo_lexer.specs.declared.token.Token.{Token}

@@ -1,5 +1,8 @@
 //! What the definitions of this crate amount to, proved once for all layers above.
 ghost use Rattle.obo_lexer.specs.Laws.{LinesAreOnly, LinesAreWritten, PiecesJoin, RunsGiveLines};
+ghost use Rattle.obo_lexer.specs.Tokens.{CoverIsUnique};
+
+use rel_io::Bytes;
 
 /// Lines and rest are the one way to write the bytes as parts without LF, each but the last with its LF.
 pub fn lines_are_the_parts(bytes: &[u8])
@@ -11,4 +14,9 @@ pub fn lines_are_the_parts(bytes: &[u8])
 pub fn cutting_does_not_matter()
     ensures pieces { PiecesJoin }
     ensures runs { RunsGiveLines }
+{}
+
+/// A line is cut into tokens in one way only.
+pub fn tokens_are_unique(line: &Bytes)
+    ensures { CoverIsUnique line.now }
 {}

@@ -11,6 +11,6 @@ mod tests;
 mod token;
 
 pub use feeder::LineFeeder;
-pub use laws::{cutting_does_not_matter, lines_are_the_parts};
+pub use laws::{cutting_does_not_matter, lines_are_the_parts, tokens_are_unique};
 pub use line::{LineBody, LineItem};
-pub use token::{Token, TokenKind, tokens, tokens_are_unique};
+pub use token::{Token, TokenKind, tokens};

@@ -7,6 +7,9 @@ use rel_io::{Bytes, Dup, NoMemory};
 use simdutf8::is_utf8;
 use std::alloc::Global;
 
+/// The byte that begins the end of a line in some files, and means a space elsewhere.
+const RETURN: u8 = b'\r';
+
 /// What a line says.
 #[derive(Debug, PartialEq, Eq, Drop)]
 pub enum LineBody {
@@ -23,6 +26,7 @@ pub enum LineBody {
 pub struct LineItem {
     /// Counted from 1.
     pub number: u32,
+    /// Its text, or what keeps it from having one.
     pub body: LineBody,
 }
 
@@ -43,9 +47,6 @@ impl Dup for LineItem {
         Ok(LineItem { number, body })
     }
 }
-
-/// The byte that begins the end of a line in some files, and means a space elsewhere.
-const RETURN: u8 = b'\r';
 
 /// The body of a line that stands in the file as these bytes, its LF left out.
 pub(crate) fn body_of(limit: u32, line: Vec<u8>) -> LineBody

@@ -1,5 +1,5 @@
 //! Lines and tokens on small texts, with answers worked out by hand from the rules.
-ghost use Rattle.std.specs.Prelude.{◌≡◌, ◌^◌, ◌<◌, ◌≤◌, IfOk, length};
+ghost use Rattle.std.specs.Prelude.{◌≡◌, ◌^◌, ◌<◌, IfOk, length};
 
 use crate::{LineBody, LineFeeder, LineItem, Token, TokenKind, tokens};
 use rel_io::{Bytes, Dup, NoMemory};
@@ -59,26 +59,6 @@ fn lines_in_pieces(alloc: Global, file: &[u8], size: usize) -> Result<Vec<LineIt
     all_lines(alloc, feeder, file.len())
 }
 
-/// The lines of a file that is cut at one place. The lines before the cut are taken before the rest comes.
-fn lines_around(alloc: Global, file: &[u8], cut: usize) -> Result<Vec<LineItem>, NoMemory>
-    requires within { cut ≤ length file.now }
-    requires short { length file.now < 2 ^ 32 }
-{
-    let mut feeder = LineFeeder::new(alloc, LIMIT)?;
-    feeder.feed(&file[..cut])?;
-    let first = feeder.take_line();
-    feeder.feed(&file[cut..])?;
-    feeder.finish()?;
-    let mut lines = Vec::new(alloc);
-    if let Some(line) = first {
-        lines.push(line)?;
-    }
-    for line in all_lines(alloc, feeder, file.len())? {
-        lines.push(line)?;
-    }
-    Ok(lines)
-}
-
 /// The lines that wait, up to one more than so many.
 fn all_lines(
     alloc: Global,
@@ -130,19 +110,6 @@ fn files_in_pieces(rt: HostRuntime) -> Result<(), Fail> {
     Ok(())
 }
 
-#[test]
-fn files_cut_once(rt: HostRuntime) -> Result<(), Fail> {
-    for (file, want) in FILES {
-        assert!(rt; file.len() < 100);
-        for cut in 0..=file.len() {
-            let lines = lines_around(rt.alloc(), file, cut)?;
-            let text = shown(rt.alloc(), lines.as_slice())?;
-            assert_eq!(rt; text.as_slice(), want, "{file:?} cut at {cut}");
-        }
-    }
-    Ok(())
-}
-
 /// A line, and its tokens as `shown_tokens` writes them.
 const LINES: [(&[u8], &[u8]); 6] = [
     (b"", b""),
@@ -172,7 +139,7 @@ fn shown_tokens(alloc: Global, tokens: &[Token]) -> Result<Vec<u8>, NoMemory> {
 #[test]
 fn tokens_of_lines(rt: HostRuntime) -> Result<(), Fail> {
     for (line, want) in LINES {
-        let line = Bytes::from_vec(Vec::from_slice(rt.alloc(), line)?);
+        let line = Bytes::from_slice(rt.alloc(), line)?;
         assert!(rt; line.as_slice().len() < 100);
         let tokens = tokens(rt.alloc(), &line)?;
         let text = shown_tokens(rt.alloc(), tokens.as_slice())?;

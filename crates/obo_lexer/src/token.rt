@@ -1,6 +1,6 @@
 //! The tokens of a line: blanks, marks, escaped characters and the plain text between them.
 ghost use Rattle.std.specs.Prelude.{◌≡◌, ◌+◌, ◌^◌, ◌<◌, ◌≤◌, IfOk, length};
-ghost use Rattle.obo_lexer.specs.Tokens.{CoverIsUnique, Covers, HasExtent, IsRun, blank_at, continuation_at, escapes_at, is_blank, is_continuation, is_mark, plain_at};
+ghost use Rattle.obo_lexer.specs.Tokens.{Covers, HasExtent, IsRun, blank_at, continuation_at, escapes_at, is_blank, is_continuation, is_mark, plain_at};
 
 use rel_io::{Bytes, Dup, NoMemory};
 use std::alloc::Global;
@@ -21,8 +21,11 @@ pub enum TokenKind {
 /// The bytes of a line from one place up to another, both counted from 0.
 #[derive(Clone, Copy, Debug, PartialEq, Eq)]
 pub struct Token {
+    /// The place of its first byte.
     pub from: u32,
+    /// The place behind its last byte.
     pub to: u32,
+    /// What it is.
     pub kind: TokenKind,
 }
 
@@ -53,11 +56,6 @@ pub fn tokens(alloc: Global, line: &Bytes) -> Result<Vec<Token>, NoMemory>
     }
     Ok(tokens)
 }
-
-/// A line is cut into tokens in one way only.
-pub fn tokens_are_unique(line: &Bytes)
-    ensures { CoverIsUnique line.now }
-{}
 
 /// The token that begins at the place.
 fn token_at(line: &[u8], place: usize) -> Token
@@ -136,12 +134,14 @@ fn escapes_at(line: &[u8], place: usize) -> bool
     line[place] == b'\\' && place + 1 < line.len()
 }
 
+/// Whether the byte is a space or a tab.
 fn is_blank(byte: u8) -> bool
     ensures { result ≡ is_blank byte }
 {
     byte == b' ' || byte == b'\t'
 }
 
+/// Whether the byte is a mark by itself.
 fn is_mark(byte: u8) -> bool
     ensures { result ≡ is_mark byte }
 {
@@ -151,6 +151,7 @@ fn is_mark(byte: u8) -> bool
     )
 }
 
+/// Whether the byte goes on with a character in UTF-8.
 fn is_continuation(byte: u8) -> bool
     ensures { result ≡ is_continuation byte }
 {

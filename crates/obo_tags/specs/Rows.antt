@@ -1,4 +1,4 @@
--- The rows of the program's table, by the tags that they are for.
+-- The rows of the program's table, by the tags that they are for. (Own.)
 use Rattle.std.specs.Prelude.{◌≡◌, ℕ, ◌<◌, List, [], Option, length, map, slice_index_or}
 use Rattle.std.specs.List.{position_or_len, range_with_len}
 use Rattle.std.specs.Borrow.{Bor}

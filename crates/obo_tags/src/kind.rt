@@ -5,9 +5,13 @@ use std::alloc::Global;
 /// What a clause belongs to: the header, or a frame that its frame line names.
 #[derive(Clone, Copy, Debug, PartialEq, Eq)]
 pub enum FrameKind {
+    /// The lines before the first frame line.
     Header,
+    /// What `[Term]` begins: a class.
     Term,
+    /// What `[Typedef]` begins: a relation.
     Typedef,
+    /// What `[Instance]` begins: an individual.
     Instance,
 }
 
