@@ -1,7 +1,9 @@
 //! What the words read so far say, and what one more word adds.
-ghost use Rattle.std.specs.Prelude.{◌≡◌, ◌<◌, ◌^◌};
-ghost use Rattle.chain_words.specs.Reading.{Answers};
-ghost use Rattle.chain_words.specs.Scan.{at_option, at_value, at_command, at_place, at_word, begun, turn, at_end, tested, command_of, rule_of};
+ghost use Rattle.std.specs.Prelude.{◌≡◌, ◌<◌, ◌^◌, ◌+◌, nat_le, Ok, Some, None, if◌then◌else◌, IfOk, IfErr};
+ghost use Rattle.chain_words.specs.Reading.{Answers, IsBadWord};
+ghost use Rattle.chain_words.specs.Scan.{at_option, at_value, with_setting, at_command, at_place, at_word, begun, turn, at_end, tested, command_of, rule_of, stands_first, most_commands};
+ghost use Rattle.chain_words.specs.declared.fault.WordKind.TheVariants.{NotHere, TooMany};
+ghost use Rattle.chain_words.specs.declared.draft.Draft.{Draft};
 ghost use Rattle.chain_words.specs.Clash.{first_clash};
 
 use crate::choices::accepts;
@@ -42,28 +44,19 @@ fn bad(index: u32, kind: WordKind) -> WordFault
 }
 
 /// An option word: its value comes next.
-fn at_option(draft: Draft, rule: Rule, at: u32) -> Result<Draft, WordFault>
+fn at_option(mut draft: Draft, rule: Rule, at: u32) -> Result<Draft, WordFault>
     ensures { Answers (at_option draft rule at) result }
 {
     let is_given = setting_of(rule.option, draft.phrase.settings.as_slice()).is_some();
     if rule.times.stands_once() && is_given {
+        drop(draft);
         return Err(bad(at, WordKind::Repeated));
     }
-    let Draft {
-        chain,
-        earlier,
-        phrase,
-        asked: _,
-    } = draft;
-    Ok(Draft {
-        chain,
-        earlier,
-        phrase,
-        asked: Some(Asked {
-            option: rule.option,
-            at,
-        }),
-    })
+    draft.asked = Some(Asked {
+        option: rule.option,
+        at,
+    });
+    Ok(draft)
 }
 
 /// The value of an option.
@@ -76,10 +69,31 @@ fn at_value(
 ) -> Result<Draft, WordFault>
     ensures { Answers (at_value draft option at word.now) result }
 {
+    let setting = setting_at(alloc, option, at, word)?;
+    with_setting(draft, setting)
+}
+
+/// The setting that this word gives to an option, whatever the draft.
+fn setting_at(
+    alloc: Global,
+    option: OptionWord,
+    at: u32,
+    word: &[u8],
+) -> Result<Setting, WordFault>
+    ensures setting { IfOk result (λ setting. (draft : Draft) → at_value draft option at word.now ≡ Ok (record draft { phrase = with_setting draft.phrase setting.option setting.at setting.value; asked = None })) }
+    ensures bad_value { IfErr result (λ fault. (draft : Draft) → IsBadWord (at_value draft option at word.now) fault) }
+{
     if !accepts(option, word) {
         return Err(bad(at, WordKind::BadValue));
     }
-    let value = Bytes::from_vec(Vec::from_slice(alloc, word)?);
+    let value = Bytes::from_slice(alloc, word)?;
+    Ok(Setting { option, at, value })
+}
+
+/// The step has one more setting.
+fn with_setting(draft: Draft, setting: Setting) -> Result<Draft, WordFault>
+    ensures { Answers (Ok (record draft { phrase = with_setting draft.phrase setting.option setting.at setting.value; asked = None })) result }
+{
     let Draft {
         chain,
         earlier,
@@ -88,20 +102,33 @@ fn at_value(
     } = draft;
     let Phrase {
         command,
-        at: begin,
+        at,
         settings,
     } = phrase;
-    let settings = pushed(settings, Setting { option, at, value })?;
+    let settings = pushed(settings, setting)?;
     Ok(Draft {
         chain,
         earlier,
         phrase: Phrase {
             command,
-            at: begin,
+            at,
             settings,
         },
         asked: None,
     })
+}
+
+/// What is wrong with a step of this command behind so many later steps.
+fn misplaced(command: CommandWord, steps: usize) -> Option<WordKind>
+    ensures { result ≡ (if stands_first command then Some NotHere else (if nat_le most_commands (steps + 1) then Some TooMany else None)) }
+{
+    if command.stands_first() {
+        return Some(WordKind::NotHere);
+    }
+    if steps >= MOST_COMMANDS - 1 {
+        return Some(WordKind::TooMany);
+    }
+    None
 }
 
 /// A step of this command begins, behind the steps of a chain.
@@ -114,11 +141,10 @@ fn begun(
 ) -> Result<Draft, WordFault>
     ensures { Answers (begun earlier command at chain) result }
 {
-    if command.stands_first() {
-        return Err(bad(at, WordKind::NotHere));
-    }
-    if chain.steps.as_slice().len() >= MOST_COMMANDS - 1 {
-        return Err(bad(at, WordKind::TooMany));
+    if let Some(kind) = misplaced(command, chain.steps.as_slice().len()) {
+        drop(chain);
+        drop(earlier);
+        return Err(bad(at, kind));
     }
     Ok(Draft {
         chain,
@@ -160,7 +186,10 @@ fn at_word(alloc: Global, draft: Draft, at: u32, word: &[u8]) -> Result<Draft, W
         Some(rule) => at_option(draft, rule, at),
         None => match command_of(word) {
             Some(command) => at_command(alloc, draft, command, at),
-            None => Err(bad(at, WordKind::UnknownWord)),
+            None => {
+                drop(draft);
+                Err(bad(at, WordKind::UnknownWord))
+            }
         },
     }
 }
@@ -189,15 +218,16 @@ fn tested(chain: Chain, settings: &[Setting]) -> Result<Command, WordFault>
 pub fn at_end(alloc: Global, draft: Draft) -> Result<Command, WordFault>
     ensures { Answers (at_end draft.asked draft) result }
 {
+    if let Some(asked) = draft.asked {
+        drop(draft);
+        return Err(bad(asked.at, WordKind::NoValue));
+    }
     let Draft {
         chain,
         earlier,
         phrase,
-        asked,
+        asked: _,
     } = draft;
-    if let Some(asked) = asked {
-        return Err(bad(asked.at, WordKind::NoValue));
-    }
     let chain = ended(alloc, chain, &phrase)?;
     let settings = joined(earlier, phrase.settings)?;
     tested(chain, settings.as_slice())

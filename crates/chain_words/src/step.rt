@@ -127,10 +127,14 @@ fn followed(
     ensures { Answers (followed chain step output at) result }
 {
     match step {
-        None => Err(WordFault::BadWord {
-            index: at,
-            kind: WordKind::MissingOption,
-        }),
+        None => {
+            drop(chain);
+            drop(output);
+            Err(WordFault::BadWord {
+                index: at,
+                kind: WordKind::MissingOption,
+            })
+        }
         Some(step) => {
             let Chain {
                 inputs,
@@ -160,6 +164,7 @@ fn joined(
 {
     let settings = phrase.settings.as_slice();
     if phrase.command.is_merge() {
+        drop(chain);
         let begun = merged(alloc, settings, output)?;
         return Ok(begun);
     }
