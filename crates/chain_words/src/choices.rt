@@ -3,9 +3,9 @@ ghost use Rattle.std.specs.Prelude.{◌≡◌};
 ghost use Rattle.chain_words.specs.Word.{named, is_name};
 ghost use Rattle.chain_words.specs.Choices.{methods, method_word, formats, format_word, bools, bool_word, accepts, is_of_kind};
 
-use crate::named::find_named;
+use crate::named::{Named, find_named};
 use crate::table::{Kind, OptionWord};
-use crate::{Format, Method, Named};
+use crate::{Format, Method};
 
 impl Named for Method {
     ghost word = { method_word };

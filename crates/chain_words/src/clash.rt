@@ -36,29 +36,17 @@ fn writes(name: &[u8], setting: &Setting) -> bool
 }
 
 /// Whether one of these settings reads the file of this name.
-#[tactic(auto, using(crate::proofs::ListLemmas::list_any_drop))]
 fn any_reads(name: &[u8], settings: &[Setting]) -> bool
     ensures { result ≡ list_any (reads name.now) settings.now }
 {
-    for setting in settings {
-        if reads(name, setting) {
-            return true;
-        }
-    }
-    false
+    settings.iter().any(|setting| reads(name, setting))
 }
 
 /// Whether one of these settings writes the file of this name.
-#[tactic(auto, using(crate::proofs::ListLemmas::list_any_drop))]
 fn any_writes(name: &[u8], settings: &[Setting]) -> bool
     ensures { result ≡ list_any (writes name.now) settings.now }
 {
-    for setting in settings {
-        if writes(name, setting) {
-            return true;
-        }
-    }
-    false
+    settings.iter().any(|setting| writes(name, setting))
 }
 
 /// What is wrong with the name of an output, among all settings and those before it.
@@ -78,8 +66,8 @@ fn clash(all: &[Setting], earlier: &[Setting], setting: &Setting) -> Option<Word
     None
 }
 
-/// The first name of an output that is taken. A chain has at most 64 outputs and fewer than 1,024 settings, so
-/// looking through all settings for each output is bounded, and two names of different lengths are not compared.
+/// The first name of an output that is taken. A chain has at most 64 outputs and 511 settings, so looking through all
+/// settings for each output is bounded, and two names of different lengths are not compared.
 pub fn first_clash(settings: &[Setting]) -> Option<WordFault>
     ensures { Tells (first_clash settings.now) result }
 {

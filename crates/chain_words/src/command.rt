@@ -2,54 +2,79 @@
 use rel_io::{Bytes, Dup, Items, NoMemory};
 use std::alloc::Global;
 
-/// How `extract` chooses the module (Cuenca Grau et al. 2008): by bottom locality, by top locality, or by
-/// both in turn until nothing falls away.
+/// How `extract` chooses the module (Cuenca Grau et al. 2008).
 #[derive(Clone, Copy, Debug, PartialEq, Eq, Hash)]
 pub enum Method {
+    /// By bottom locality.
     Bot,
+    /// By top locality.
     Top,
+    /// By both in turn, until nothing falls away.
     Star,
 }
 
-/// How an output is written: OBO Flat File Format 1.4, or OWL 2 Functional-Style Syntax.
+/// How an output is written.
 #[derive(Clone, Copy, Debug, PartialEq, Eq, Hash)]
 pub enum Format {
+    /// OBO Flat File Format 1.4.
     Obo,
+    /// OWL 2 Functional-Style Syntax.
     Ofn,
 }
 
-/// A file that a step writes. `check` says whether an OBO frame with two values where one is meant is refused.
+/// A file that a step writes.
 #[derive(Debug, PartialEq, Eq, Drop)]
 pub struct Output {
+    /// The name of the file.
     pub name: Bytes,
+    /// How it is written.
     pub format: Format,
+    /// Whether an OBO frame with two values where one is meant is refused.
     pub check: bool,
 }
 
-/// A step behind `merge`. `terms` is the name of the term file; `keep` says that axioms with notes stay.
+/// A step behind `merge`.
 #[derive(Debug, PartialEq, Eq, Drop)]
 pub enum Step {
-    Extract { method: Method, terms: Bytes },
+    /// Keeps the module of the names of a term file.
+    Extract {
+        /// How the module is chosen.
+        method: Method,
+        /// The name of the term file.
+        terms: Bytes,
+    },
+    /// Adds the subclass axioms that follow.
     Reason,
+    /// Adds the subclass axioms that equivalences say.
     Relax,
-    Reduce { keep: bool },
+    /// Drops the subclass axioms that follow from others.
+    Reduce {
+        /// Whether axioms with annotations stay.
+        keep: bool,
+    },
+    /// Changes nothing: its output alone counts.
     Convert,
 }
 
-/// A chain: the inputs that are merged, in the order of the words and as often as they stand there, the
-/// catalog, the output of `merge`, and the later steps, each with its output.
+/// A chain of steps on one ontology.
 #[derive(Debug, PartialEq, Eq, Drop)]
 pub struct Chain {
+    /// The inputs that are merged, in the order of the words and as often as they stand there.
     pub inputs: Items<Bytes>,
+    /// The catalog, which says where imports lie.
     pub catalog: Option<Bytes>,
+    /// The output of `merge`.
     pub first: Option<Output>,
+    /// The later steps, each with its output.
     pub steps: Items<(Step, Option<Output>)>,
 }
 
-/// What the words ask for: to run a chain, or to generate an ontology of the given size, from 10 to 1000000.
+/// What the words ask for.
 #[derive(Debug, PartialEq, Eq, Drop)]
 pub enum Command {
+    /// To run a chain.
     Run(Chain),
+    /// To generate an ontology of this size, from 10 to 1000000.
     Generate(u32),
 }
 

@@ -19,20 +19,25 @@ use std::alloc::Global;
 /// The most commands that a chain has, `merge` among them.
 const MOST_COMMANDS: usize = 64;
 
-/// An option whose value comes next. `at` is the index of the option's word.
-#[derive(Clone, Copy, Debug)]
+/// An option whose value comes next.
+#[derive(Clone, Copy)]
 pub struct Asked {
+    /// The option.
     pub option: OptionWord,
+    /// The index of its word.
     pub at: u32,
 }
 
-/// What the words so far say: the chain of the steps that have ended, their settings in order, and the step
-/// that is being read.
-#[derive(Debug, Drop)]
+/// What the words so far say.
+#[derive(Drop)]
 pub struct Draft {
+    /// The chain of the steps that have ended.
     pub chain: Chain,
+    /// The settings of these steps, in order.
     pub earlier: Items<Setting>,
+    /// The step that is being read.
     pub phrase: Phrase,
+    /// The option whose value the next word is, if there is one.
     pub asked: Option<Asked>,
 }
 

@@ -3,11 +3,11 @@ ghost use Rattle.std.specs.Prelude.{◌≡◌};
 ghost use Rattle.chain_words.specs.declared.fault.WordFault.TheVariants as fault;
 
 use rel_io::{Dup, NoMemory};
-use std::alloc::{AllocError, AllocFailed, Global};
+use std::alloc::Global;
 use std::error::Error;
 use std::fmt;
 
-/// What is wrong with a word. The order is that of the definition's tests.
+/// What is wrong with a word.
 #[derive(Clone, Copy, Debug, PartialEq, Eq, Hash)]
 pub enum WordKind {
     /// There are more than 1,024 words, or a 65th command begins.
@@ -34,10 +34,17 @@ pub enum WordKind {
     OutputTwice,
 }
 
-/// Why there is no command: the bad word that comes first, with its index counted from 0, or want of memory.
+/// Why there is no command: the bad word that comes first, or want of memory.
 #[derive(Clone, Copy, Debug, PartialEq, Eq, Hash)]
 pub enum WordFault {
-    BadWord { index: u32, kind: WordKind },
+    /// A word is wrong.
+    BadWord {
+        /// Its index among the words, from 0; of what is missing, that of the word that asks for it.
+        index: u32,
+        /// What is wrong with it.
+        kind: WordKind,
+    },
+    /// No memory was left.
     NoMemory,
 }
 
@@ -62,22 +69,6 @@ impl From<NoMemory> for WordFault {
     ghost from_gives = { λ _ e. e ≡ fault.NoMemory };
 
     fn from(_: NoMemory) -> WordFault {
-        WordFault::NoMemory
-    }
-}
-
-impl From<AllocError> for WordFault {
-    ghost from_gives = { λ _ e. e ≡ fault.NoMemory };
-
-    fn from(_: AllocError) -> WordFault {
-        WordFault::NoMemory
-    }
-}
-
-impl<T: Drop> From<AllocFailed<T>> for WordFault {
-    ghost from_gives = { λ _ e. e ≡ fault.NoMemory };
-
-    fn from(_: AllocFailed<T>) -> WordFault {
         WordFault::NoMemory
     }
 }

@@ -6,8 +6,8 @@ ghost use Rattle.chain_words.specs.declared.command.Command.TheVariants.{Run};
 
 use crate::Chain;
 
-/// In an accepted chain no output has the name of a file that is read, and no two outputs have one name: what a
-/// step writes is neither lost nor read back.
+/// In an accepted chain no output has the name of an input, a catalog or a term file, and no two outputs have one name:
+/// what a step writes is not lost, and of the files that the words name none is read back.
 pub fn outputs_stand_apart(words: &Vec<String>, accepted: &Chain)
     requires { chain (map string_bytes words.now.items) ≡ Ok (Run accepted.now) }
     ensures no_input { NoOutputIsInput accepted.now }

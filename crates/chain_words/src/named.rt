@@ -12,14 +12,8 @@ pub trait Named: Copy {
 }
 
 /// The value that a word stands for: the first of these that has this very word.
-#[tactic(auto, using(crate::proofs::ListLemmas::find_drop))]
 pub fn find_named<T: Named>(all: &[T], word: &[u8]) -> Option<T>
     ensures { result ≡ named T.word all.now word.now }
 {
-    for value in all {
-        if value.word() == word {
-            return Some(*value);
-        }
-    }
-    None
+    all.iter().copied().find(|value| value.word() == word)
 }

@@ -6,7 +6,7 @@ ghost use Rattle.chain_words.specs.Number.{leads_with_zero, number_of, size_of};
 fn leads_with_zero(word: &[u8]) -> bool
     ensures { result ≡ leads_with_zero word.now }
 {
-    !word.is_empty() && word[0] == b'0'
+    word.first() == Some(&b'0')
 }
 
 /// The number that a word of digits writes, where it is at most 1000000.

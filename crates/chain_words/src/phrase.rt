@@ -4,24 +4,31 @@ ghost use Rattle.std.specs.Option.{option_copied};
 ghost use Rattle.chain_words.specs.Step.{is_of, setting_of, value_of, values_of, method_of, format_of, bool_of, lacks, lacks_option};
 
 use crate::choices::{format, method, truth};
+use crate::named::Named;
 use crate::table::{CommandWord, OptionWord, Rule, options};
-use crate::{Format, Method, Named};
+use crate::{Format, Method};
 use rel_io::{Bytes, Dup, Items, NoMemory};
 use std::alloc::Global;
 
-/// An option with its value. `at` is the index of the value among the words.
-#[derive(Debug, Drop)]
+/// An option with its value.
+#[derive(Drop)]
 pub struct Setting {
+    /// The option.
     pub option: OptionWord,
+    /// The index of the value among the words.
     pub at: u32,
+    /// The value.
     pub value: Bytes,
 }
 
-/// A step as the words say it. `at` is the index of its command word.
-#[derive(Debug, Drop)]
+/// A step as the words say it.
+#[derive(Drop)]
 pub struct Phrase {
+    /// Its command.
     pub command: CommandWord,
+    /// The index of the command's word.
     pub at: u32,
+    /// Its options with their values, in order.
     pub settings: Items<Setting>,
 }
 
@@ -33,16 +40,10 @@ fn is_of(option: OptionWord, setting: &Setting) -> bool
 }
 
 /// The setting of an option, where there is one.
-#[tactic(auto, using(crate::proofs::ListLemmas::find_drop))]
 pub fn setting_of(option: OptionWord, settings: &[Setting]) -> Option<&Setting>
     ensures { option_copied result ≡ setting_of option settings.now }
 {
-    for setting in settings {
-        if is_of(option, setting) {
-            return Some(setting);
-        }
-    }
-    None
+    settings.iter().find(|setting| is_of(option, setting))
 }
 
 /// A copy of the value of an option, where it has one.
@@ -85,20 +86,16 @@ pub fn values_of(
 pub fn method_of(settings: &[Setting]) -> Option<Method>
     ensures { result ≡ method_of settings.now }
 {
-    match setting_of(OptionWord::Method, settings) {
-        None => None,
-        Some(setting) => method(setting.value.as_slice()),
-    }
+    let setting = setting_of(OptionWord::Method, settings)?;
+    method(setting.value.as_slice())
 }
 
 /// The format that a step names.
 pub fn format_of(settings: &[Setting]) -> Option<Format>
     ensures { result ≡ format_of settings.now }
 {
-    match setting_of(OptionWord::Format, settings) {
-        None => None,
-        Some(setting) => format(setting.value.as_slice()),
-    }
+    let setting = setting_of(OptionWord::Format, settings)?;
+    format(setting.value.as_slice())
 }
 
 /// The truth value that a step gives to an option, or the default.
@@ -119,15 +116,11 @@ fn lacks_option(settings: &[Setting], rule: Rule) -> bool
 }
 
 /// Whether a step lacks a required option.
-#[tactic(auto, using(crate::proofs::ListLemmas::list_any_drop))]
 pub fn lacks(phrase: &Phrase) -> bool
     ensures { result ≡ lacks phrase.now }
 {
     let settings = phrase.settings.as_slice();
-    for rule in options(phrase.command) {
-        if lacks_option(settings, *rule) {
-            return true;
-        }
-    }
-    false
+    options(phrase.command)
+        .iter()
+        .any(|rule| lacks_option(settings, *rule))
 }

@@ -75,6 +75,25 @@ fn generated(words: &[String]) -> Result<Command, WordFault>
     }
 }
 
+/// Reads the words behind the first, which stands for this command or for none.
+fn begun_by(
+    alloc: Global,
+    command: Option<CommandWord>,
+    words: &[String],
+) -> Result<Command, WordFault>
+    requires { length words.now ≤ 1024 }
+    ensures { Answers (begun_by command (drop 1 (map string_bytes words.now))) result }
+{
+    match command {
+        Some(CommandWord::Merge) => scanned(alloc, words),
+        Some(CommandWord::Generate) => generated(words),
+        _ => Err(WordFault::BadWord {
+            index: 0,
+            kind: WordKind::NoCommand,
+        }),
+    }
+}
+
 /// Reads words that are not too many.
 fn all_words(alloc: Global, words: &[String]) -> Result<Command, WordFault>
     requires { length words.now ≤ 1024 }
@@ -86,14 +105,7 @@ fn all_words(alloc: Global, words: &[String]) -> Result<Command, WordFault>
             kind: WordKind::NoCommand,
         });
     }
-    match command_of(words[0].as_bytes()) {
-        Some(CommandWord::Merge) => scanned(alloc, words),
-        Some(CommandWord::Generate) => generated(words),
-        _ => Err(WordFault::BadWord {
-            index: 0,
-            kind: WordKind::NoCommand,
-        }),
-    }
+    begun_by(alloc, command_of(words[0].as_bytes()), words)
 }
 
 /// The command that the words behind the program's name ask for, or the bad word that comes first.

@@ -5,59 +5,137 @@ ghost use Rattle.chain_words.specs.Table.{command_words, command_word, options, 
 ghost use Rattle.chain_words.specs.Scan.{command_of, rule_of, stands_once, stands_first};
 ghost use Rattle.chain_words.specs.Step.{is_required, is_merge};
 
-use crate::Named;
-use crate::named::find_named;
+use crate::named::{Named, find_named};
 
 /// The words that begin a step.
-#[derive(Clone, Copy, Debug, PartialEq, Eq, Hash)]
+#[derive(Clone, Copy)]
 pub enum CommandWord {
+    /// `merge`: reads the inputs and puts them together.
     Merge,
+    /// `extract`: keeps the module of the names of a term file.
     Extract,
+    /// `reason`: adds the subclass axioms that follow.
     Reason,
+    /// `relax`: adds the subclass axioms that equivalences say.
     Relax,
+    /// `reduce`: drops the subclass axioms that follow from others.
     Reduce,
+    /// `convert`: writes the ontology in a chosen format.
     Convert,
+    /// `generate`: makes an ontology of a given size.
     Generate,
 }
 
 /// The words that ask for the next word as their value.
-#[derive(Clone, Copy, Debug, PartialEq, Eq, Hash)]
+#[derive(Clone, Copy)]
 pub enum OptionWord {
+    /// `--input`: an ontology that is merged.
     Input,
+    /// `--catalog`: the table of files that stand for imports.
     Catalog,
+    /// `--term-file`: the list of names that are extracted.
     TermFile,
+    /// `--output`: the file that the step writes.
     Output,
+    /// `--method`: how the module is chosen.
     Method,
+    /// `--preserve-annotated-axioms`: whether axioms with annotations stay.
     Preserve,
+    /// `--format`: how the output is written.
     Format,
+    /// `--check`: whether a frame with two values where one is meant is refused.
     Check,
 }
 
 /// How often an option may stand in one step.
-#[derive(Clone, Copy, Debug, PartialEq, Eq, Hash)]
+#[derive(Clone, Copy)]
 pub enum Times {
+    /// It is required, and may be repeated.
     OneOrMore,
+    /// It is required, and may not be repeated.
     Once,
+    /// It may be left out, and may not be repeated.
     AtMostOnce,
 }
 
 /// What an option's value is: the name of a file that is read, the name of one that is written, or a word of a
 /// short list.
-#[derive(Clone, Copy, Debug, PartialEq, Eq, Hash)]
+#[derive(Clone, Copy)]
 pub enum Kind {
+    /// The name of a file that is read.
     Read,
+    /// The name of a file that is written.
     Written,
+    /// `BOT`, `TOP` or `STAR`.
     MethodWord,
+    /// `obo` or `ofn`.
     FormatWord,
+    /// `true` or `false`.
     BoolWord,
 }
 
 /// A line of the table: an option of a command and how often it may stand there.
-#[derive(Clone, Copy, Debug, PartialEq, Eq, Hash)]
+#[derive(Clone, Copy)]
 pub struct Rule {
+    /// The option.
     pub option: OptionWord,
+    /// How often it may stand in one step.
     pub times: Times,
 }
+
+/// The inputs of `merge`.
+const INPUT: Rule = Rule {
+    option: OptionWord::Input,
+    times: Times::OneOrMore,
+};
+
+/// The catalog of `merge`.
+const CATALOG: Rule = Rule {
+    option: OptionWord::Catalog,
+    times: Times::AtMostOnce,
+};
+
+/// The method of `extract`.
+const METHOD: Rule = Rule {
+    option: OptionWord::Method,
+    times: Times::Once,
+};
+
+/// The term file of `extract`.
+const TERM_FILE: Rule = Rule {
+    option: OptionWord::TermFile,
+    times: Times::Once,
+};
+
+/// What `reduce` keeps.
+const PRESERVE: Rule = Rule {
+    option: OptionWord::Preserve,
+    times: Times::AtMostOnce,
+};
+
+/// The output of `convert`.
+const CONVERTED: Rule = Rule {
+    option: OptionWord::Output,
+    times: Times::Once,
+};
+
+/// The format of `convert`.
+const FORMAT: Rule = Rule {
+    option: OptionWord::Format,
+    times: Times::AtMostOnce,
+};
+
+/// The check of `convert`.
+const CHECK: Rule = Rule {
+    option: OptionWord::Check,
+    times: Times::AtMostOnce,
+};
+
+/// The output of each other step.
+const OUTPUT: Rule = Rule {
+    option: OptionWord::Output,
+    times: Times::AtMostOnce,
+};
 
 impl Named for CommandWord {
     ghost word = { command_word };
@@ -106,14 +184,11 @@ impl OptionWord {
         ensures { result ≡ kind_of self }
     {
         match self {
-            OptionWord::Input => Kind::Read,
-            OptionWord::Catalog => Kind::Read,
-            OptionWord::TermFile => Kind::Read,
+            OptionWord::Input | OptionWord::Catalog | OptionWord::TermFile => Kind::Read,
             OptionWord::Output => Kind::Written,
             OptionWord::Method => Kind::MethodWord,
-            OptionWord::Preserve => Kind::BoolWord,
             OptionWord::Format => Kind::FormatWord,
-            OptionWord::Check => Kind::BoolWord,
+            OptionWord::Preserve | OptionWord::Check => Kind::BoolWord,
         }
     }
 }
@@ -173,71 +248,17 @@ pub fn rule_of(command: CommandWord, word: &[u8]) -> Option<Rule>
     find_named(options(command), word)
 }
 
-/// The options of a command.
+/// The options of a command, and how often each may stand in its step.
 pub fn options(command: CommandWord) -> &'static [Rule]
     ensures { result.now ≡ options command }
 {
     match command {
-        CommandWord::Merge => &[
-            Rule {
-                option: OptionWord::Input,
-                times: Times::OneOrMore,
-            },
-            Rule {
-                option: OptionWord::Catalog,
-                times: Times::AtMostOnce,
-            },
-            Rule {
-                option: OptionWord::Output,
-                times: Times::AtMostOnce,
-            },
-        ],
-        CommandWord::Extract => &[
-            Rule {
-                option: OptionWord::Method,
-                times: Times::Once,
-            },
-            Rule {
-                option: OptionWord::TermFile,
-                times: Times::Once,
-            },
-            Rule {
-                option: OptionWord::Output,
-                times: Times::AtMostOnce,
-            },
-        ],
-        CommandWord::Reason => &[Rule {
-            option: OptionWord::Output,
-            times: Times::AtMostOnce,
-        }],
-        CommandWord::Relax => &[Rule {
-            option: OptionWord::Output,
-            times: Times::AtMostOnce,
-        }],
-        CommandWord::Reduce => &[
-            Rule {
-                option: OptionWord::Preserve,
-                times: Times::AtMostOnce,
-            },
-            Rule {
-                option: OptionWord::Output,
-                times: Times::AtMostOnce,
-            },
-        ],
-        CommandWord::Convert => &[
-            Rule {
-                option: OptionWord::Output,
-                times: Times::Once,
-            },
-            Rule {
-                option: OptionWord::Format,
-                times: Times::AtMostOnce,
-            },
-            Rule {
-                option: OptionWord::Check,
-                times: Times::AtMostOnce,
-            },
-        ],
+        CommandWord::Merge => &[INPUT, CATALOG, OUTPUT],
+        CommandWord::Extract => &[METHOD, TERM_FILE, OUTPUT],
+        CommandWord::Reason => &[OUTPUT],
+        CommandWord::Relax => &[OUTPUT],
+        CommandWord::Reduce => &[PRESERVE, OUTPUT],
+        CommandWord::Convert => &[CONVERTED, FORMAT, CHECK],
         CommandWord::Generate => &[],
     }
 }

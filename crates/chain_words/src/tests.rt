@@ -115,8 +115,7 @@ fn answer(alloc: Global, text: &str) -> Result<String, AllocError> {
 }
 
 fn name(alloc: Global, text: &str) -> Result<Bytes, NoMemory> {
-    let bytes = Vec::from_slice(alloc, text.as_bytes())?;
-    Ok(Bytes::from_vec(bytes))
+    Bytes::from_slice(alloc, text.as_bytes())
 }
 
 fn output(
