@@ -1,3 +1,4 @@
+pub mod Laws
 pub mod Proper
 pub mod Same
 pub mod Text

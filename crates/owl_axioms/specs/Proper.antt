@@ -1,5 +1,5 @@
--- Proper trees and axioms: one way to write what has no order and no repeats, and IRIs that can be printed.
--- Each part is a test.
+-- Proper trees and axioms: one way to write what has no order and no repeats, and IRIs that can be printed. Each part is
+-- a test. (Own; the order is that of the functional-style text, OWL 2 Structural Specification and Functional-Style Syntax.)
 use Rattle.std.specs.Prelude.{ℕ, ◌==◌, Bool, true, not, ◌&&◌, ◌||◌, List, [], ◌∷◌, IsTrue, length, map, nat_le, nat_lt, nat_eq}
 use Rattle.std.specs.Cmp.Lexicographic.{pointwise, slice_cmp}
 use Rattle.std.specs.List.{list_all}

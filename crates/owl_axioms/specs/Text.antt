@@ -1,5 +1,5 @@
--- The functional-style text of IRIs, values, expressions and axioms (OWL 2 Structural Specification and
--- Functional-Style Syntax), as bytes. All of it is a word and, in brackets, what the word takes.
+-- The functional-style text of IRIs, values, expressions and axioms, as bytes. All of it is a word and, in brackets, what
+-- the word takes. (OWL 2 Structural Specification and Functional-Style Syntax.)
 use Rattle.std.specs.Prelude.{ℕ, ◌==◌, ◌||◌, if◌then◌else◌, List, [], ◌∷◌, ◌++◌, Option, None, Some, codes, flat_map, map}
 use Rattle.std.specs.Fmt.{decimal}
 use Rattle.std.specs.List.{join_with_byte}

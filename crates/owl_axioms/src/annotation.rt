@@ -27,19 +27,13 @@ pub struct Side {
 impl Dup for NoteValue {
     fn copy(&self, alloc: Global) -> Result<NoteValue, NoMemory> {
         match self {
-            NoteValue::Text(text) => {
-                let text = text.copy(alloc)?;
-                Ok(NoteValue::Text(text))
-            }
+            NoteValue::Text(text) => Ok(NoteValue::Text(text.copy(alloc)?)),
             NoteValue::Typed(text, datatype) => {
                 let text = text.copy(alloc)?;
                 let datatype = datatype.copy(alloc)?;
                 Ok(NoteValue::Typed(text, datatype))
             }
-            NoteValue::Link(iri) => {
-                let iri = iri.copy(alloc)?;
-                Ok(NoteValue::Link(iri))
-            }
+            NoteValue::Link(iri) => Ok(NoteValue::Link(iri.copy(alloc)?)),
         }
     }
 }

@@ -61,93 +61,42 @@ pub struct Axiom {
     pub sides: Items<Side>,
 }
 
+/// A copy of a variant of `Body` with two or three fields.
+macro_rules! twin {
+    ($alloc:ident, $variant:ident, $first:ident, $second:ident) => {{
+        let (first, second) = both($alloc, $first, $second)?;
+        Ok(Body::$variant(first, second))
+    }};
+    ($alloc:ident, $variant:ident, $first:ident, $second:ident, $third:ident) => {{
+        let (first, second, third) = all_three($alloc, $first, $second, $third)?;
+        Ok(Body::$variant(first, second, third))
+    }};
+}
+
 impl Dup for Body {
     fn copy(&self, alloc: Global) -> Result<Body, NoMemory> {
         match self {
-            Body::Sub(first, second) => {
-                let (first, second) = both(alloc, first, second)?;
-                Ok(Body::Sub(first, second))
-            }
-            Body::Equiv(first, second) => {
-                let (first, second) = both(alloc, first, second)?;
-                Ok(Body::Equiv(first, second))
-            }
-            Body::Disjoint(first, second) => {
-                let (first, second) = both(alloc, first, second)?;
-                Ok(Body::Disjoint(first, second))
-            }
-            Body::SubRole(first, second) => {
-                let (first, second) = both(alloc, first, second)?;
-                Ok(Body::SubRole(first, second))
-            }
-            Body::Chain(first, second, third) => {
-                let (first, second, third) = all_three(alloc, first, second, third)?;
-                Ok(Body::Chain(first, second, third))
-            }
-            Body::EquivRoles(first, second) => {
-                let (first, second) = both(alloc, first, second)?;
-                Ok(Body::EquivRoles(first, second))
-            }
-            Body::DisjointRoles(first, second) => {
-                let (first, second) = both(alloc, first, second)?;
-                Ok(Body::DisjointRoles(first, second))
-            }
-            Body::Inverse(first, second) => {
-                let (first, second) = both(alloc, first, second)?;
-                Ok(Body::Inverse(first, second))
-            }
-            Body::Transitive(role) => {
-                let role = role.copy(alloc)?;
-                Ok(Body::Transitive(role))
-            }
-            Body::Reflexive(role) => {
-                let role = role.copy(alloc)?;
-                Ok(Body::Reflexive(role))
-            }
-            Body::Symmetric(role) => {
-                let role = role.copy(alloc)?;
-                Ok(Body::Symmetric(role))
-            }
-            Body::Asymmetric(role) => {
-                let role = role.copy(alloc)?;
-                Ok(Body::Asymmetric(role))
-            }
-            Body::Functional(role) => {
-                let role = role.copy(alloc)?;
-                Ok(Body::Functional(role))
-            }
-            Body::InverseFunctional(role) => {
-                let role = role.copy(alloc)?;
-                Ok(Body::InverseFunctional(role))
-            }
-            Body::Domain(role, class) => {
-                let (role, class) = both(alloc, role, class)?;
-                Ok(Body::Domain(role, class))
-            }
-            Body::Range(role, class) => {
-                let (role, class) = both(alloc, role, class)?;
-                Ok(Body::Range(role, class))
-            }
-            Body::ClassAssertion(class, individual) => {
-                let (class, individual) = both(alloc, class, individual)?;
-                Ok(Body::ClassAssertion(class, individual))
-            }
-            Body::RoleAssertion(role, from, to) => {
-                let (role, from, to) = all_three(alloc, role, from, to)?;
-                Ok(Body::RoleAssertion(role, from, to))
-            }
-            Body::Declaration(name) => {
-                let name = name.copy(alloc)?;
-                Ok(Body::Declaration(name))
-            }
-            Body::Note(subject, property, value) => {
-                let (subject, property, value) = all_three(alloc, subject, property, value)?;
-                Ok(Body::Note(subject, property, value))
-            }
-            Body::OntologyNote(property, value) => {
-                let (property, value) = both(alloc, property, value)?;
-                Ok(Body::OntologyNote(property, value))
-            }
+            Body::Sub(first, second) => twin!(alloc, Sub, first, second),
+            Body::Equiv(first, second) => twin!(alloc, Equiv, first, second),
+            Body::Disjoint(first, second) => twin!(alloc, Disjoint, first, second),
+            Body::SubRole(first, second) => twin!(alloc, SubRole, first, second),
+            Body::Chain(first, second, third) => twin!(alloc, Chain, first, second, third),
+            Body::EquivRoles(first, second) => twin!(alloc, EquivRoles, first, second),
+            Body::DisjointRoles(first, second) => twin!(alloc, DisjointRoles, first, second),
+            Body::Inverse(first, second) => twin!(alloc, Inverse, first, second),
+            Body::Transitive(role) => Ok(Body::Transitive(role.copy(alloc)?)),
+            Body::Reflexive(role) => Ok(Body::Reflexive(role.copy(alloc)?)),
+            Body::Symmetric(role) => Ok(Body::Symmetric(role.copy(alloc)?)),
+            Body::Asymmetric(role) => Ok(Body::Asymmetric(role.copy(alloc)?)),
+            Body::Functional(role) => Ok(Body::Functional(role.copy(alloc)?)),
+            Body::InverseFunctional(role) => Ok(Body::InverseFunctional(role.copy(alloc)?)),
+            Body::Domain(role, class) => twin!(alloc, Domain, role, class),
+            Body::Range(role, class) => twin!(alloc, Range, role, class),
+            Body::ClassAssertion(class, name) => twin!(alloc, ClassAssertion, class, name),
+            Body::RoleAssertion(role, from, to) => twin!(alloc, RoleAssertion, role, from, to),
+            Body::Declaration(name) => Ok(Body::Declaration(name.copy(alloc)?)),
+            Body::Note(subject, property, value) => twin!(alloc, Note, subject, property, value),
+            Body::OntologyNote(property, value) => twin!(alloc, OntologyNote, property, value),
         }
     }
 }

@@ -46,65 +46,65 @@ fn copy_expr(alloc: Global, expr: &ClassExpr) -> Result<ClassExpr, NoMemory>
     match expr {
         ClassExpr::Thing => Ok(ClassExpr::Thing),
         ClassExpr::Nothing => Ok(ClassExpr::Nothing),
-        ClassExpr::Class(iri) => {
-            let iri = iri.copy(alloc)?;
-            Ok(ClassExpr::Class(iri))
-        }
-        ClassExpr::And(operands) => {
-            let operands = copy_exprs(alloc, operands.as_slice())?;
-            Ok(ClassExpr::And(Items::from_vec(operands)))
-        }
-        ClassExpr::Or(operands) => {
-            let operands = copy_exprs(alloc, operands.as_slice())?;
-            Ok(ClassExpr::Or(Items::from_vec(operands)))
-        }
-        ClassExpr::Not(part) => {
-            let part = copy_expr(alloc, part.get())?;
-            let part = Boxed::new(alloc, part)?;
-            Ok(ClassExpr::Not(part))
-        }
+        ClassExpr::Class(iri) => Ok(ClassExpr::Class(iri.copy(alloc)?)),
+        ClassExpr::And(operands) => Ok(ClassExpr::And(copy_exprs(alloc, operands.as_slice())?)),
+        ClassExpr::Or(operands) => Ok(ClassExpr::Or(copy_exprs(alloc, operands.as_slice())?)),
+        ClassExpr::Not(part) => Ok(ClassExpr::Not(copy_part(alloc, part)?)),
         ClassExpr::Some(role, part) => {
-            let role = role.copy(alloc)?;
-            let part = copy_expr(alloc, part.get())?;
-            let part = Boxed::new(alloc, part)?;
+            let (role, part) = copy_filler(alloc, role, part)?;
             Ok(ClassExpr::Some(role, part))
         }
         ClassExpr::All(role, part) => {
-            let role = role.copy(alloc)?;
-            let part = copy_expr(alloc, part.get())?;
-            let part = Boxed::new(alloc, part)?;
+            let (role, part) = copy_filler(alloc, role, part)?;
             Ok(ClassExpr::All(role, part))
         }
         ClassExpr::Min(n, role, part) => {
-            let role = role.copy(alloc)?;
-            let part = copy_expr(alloc, part.get())?;
-            let part = Boxed::new(alloc, part)?;
+            let (role, part) = copy_filler(alloc, role, part)?;
             Ok(ClassExpr::Min(*n, role, part))
         }
         ClassExpr::Max(n, role, part) => {
-            let role = role.copy(alloc)?;
-            let part = copy_expr(alloc, part.get())?;
-            let part = Boxed::new(alloc, part)?;
+            let (role, part) = copy_filler(alloc, role, part)?;
             Ok(ClassExpr::Max(*n, role, part))
         }
         ClassExpr::Exact(n, role, part) => {
-            let role = role.copy(alloc)?;
-            let part = copy_expr(alloc, part.get())?;
-            let part = Boxed::new(alloc, part)?;
+            let (role, part) = copy_filler(alloc, role, part)?;
             Ok(ClassExpr::Exact(*n, role, part))
         }
     }
 }
 
+/// A copy of a property and of the filler beside it.
+#[cycle(copying)]
+fn copy_filler(
+    alloc: Global,
+    role: &Iri,
+    part: &Boxed<ClassExpr>,
+) -> Result<(Iri, Boxed<ClassExpr>), NoMemory>
+    ensures { IfOk result (λ twins. twins ≡ (role.now, part.now)) }
+{
+    let role = role.copy(alloc)?;
+    let part = copy_part(alloc, part)?;
+    Ok((role, part))
+}
+
+/// A copy of a part, in a box of its own.
+#[cycle(copying)]
+fn copy_part(alloc: Global, part: &Boxed<ClassExpr>) -> Result<Boxed<ClassExpr>, NoMemory>
+    ensures { IfOk result (λ twin. twin ≡ part.now) }
+{
+    let twin = copy_expr(alloc, part.get())?;
+    Boxed::new(alloc, twin)
+}
+
 /// A copy of each operand, in order.
 #[cycle(copying)]
-fn copy_exprs(alloc: Global, exprs: &[ClassExpr]) -> Result<Vec<ClassExpr>, NoMemory>
-    ensures { IfOk result (λ twins. twins.items ≡ exprs.now) }
+fn copy_exprs(alloc: Global, exprs: &[ClassExpr]) -> Result<Items<ClassExpr>, NoMemory>
+    ensures { IfOk result (λ twins. twins ≡ exprs.now) }
 {
     let mut twins = Vec::with_capacity(alloc, exprs.len())?;
     for expr in exprs {
         let twin = copy_expr(alloc, expr)?;
         twins.push(twin)?;
     }
-    Ok(twins)
+    Ok(Items::from_vec(twins))
 }

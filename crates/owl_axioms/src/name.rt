@@ -1,4 +1,4 @@
-//! What names name: a kind of entity and its IRI.
+//! Entities: classes, object properties, individuals and annotation properties, each named by an IRI.
 use rel_io::{Dup, Iri, NoMemory};
 use std::alloc::Global;
 
