@@ -1,12 +1,12 @@
 -- Lists of files as the map from their names to their bytes: where the first file of a name stands, and what
 -- it is to write another in its place.
-use Rattle.std.proofs.Common.{◌≡◌, ℕ, ◌+◌, ◌<◌, suc, Bool, true, false, cond, List, [], ◌∷◌, Option, Some, None, nat_eq, length, slice_index_or, slice_set, refl, sym, subst, ◌∙◌, arith}
+use Rattle.std.proofs.Common.{◌≡◌, ℕ, ◌+◌, ◌<◌, suc, Bool, true, false, cond, List, [], ◌∷◌, Option, Some, None, nat_eq, length, slice_set, refl, sym, subst, ◌∙◌, arith}
 use Rattle.std.specs.Cmp.Lexicographic.{pointwise, same_text, slice_cmp, texts_ties}
 use Rattle.std.specs.FinMap.{FinMap, find, from_entries_push, get, get-from_entries, get-insert, nat_cmp-IsAntisymmetric, same_map, slice_cmp-IsAntisymmetric}
 use Rattle.std.specs.List.{position_from}
 use Rattle.std.specs.Ordering.{eq_by_cmp, nat_cmp}
 use Rattle.std.proofs.lemmas.Cmp.{nat_list_cmp_total, nat_list_eq_equiv}
-use Rattle.rel_io.specs.FileList.{FileList, IsAbsent, IsFoundAt, bytes_at, name_at, place_of}
+use Rattle.rel_io.specs.FileList.{IsAbsent, IsFoundAt, bytes_at, name_at, place_of}
 
 abbrev File : Type 0
 File = List ℕ × List ℕ

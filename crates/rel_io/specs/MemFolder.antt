@@ -1,5 +1,5 @@
 -- A folder in memory, exactly: which call fails, how much a read gives, and what is held after each call. (Own.)
-use Rattle.std.specs.Prelude.{◌≡◌, ℕ, ◌+◌, ◌<◌, ◌≤◌, ◌==◌, Bool, List, [], ◌++◌, ◌∷◌, nat_eq, length, take, drop, min, is_some, unwrap_or, if◌then◌else◌, Option, Some, None}
+use Rattle.std.specs.Prelude.{ℕ, ◌+◌, ◌==◌, Bool, List, [], ◌++◌, nat_eq, length, take, drop, min, is_some, unwrap_or, if◌then◌else◌, Option, Some, None}
 use Rattle.std.specs.FinMap.{contains_key, get, insert}
 use Rattle.std.specs.List.{list_any}
 use Rattle.rel_io.specs.Count.{count_after}
