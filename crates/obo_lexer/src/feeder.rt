@@ -69,8 +69,7 @@ impl Lines {
     fn has_more(&self) -> bool
         ensures { IsTrue result ↔ (0 < length (unmarked self.now.ended self.now.rest.items)) }
     {
-        let rest = self.rest.as_slice();
-        !rest.is_empty() && (self.ended != 0 || rest != BYTE_ORDER_MARK.as_slice())
+        !behind_mark(self.ended, self.rest.as_slice()).is_empty()
     }
 
     /// Nothing is kept but the limit.
@@ -106,8 +105,19 @@ fn unmarked(alloc: Global, before: u32, line: Vec<u8>) -> Result<Vec<u8>, NoMemo
     if before != 0 || !line.as_slice().starts_with(&BYTE_ORDER_MARK) {
         return Ok(line);
     }
-    let bare = Vec::from_slice(alloc, &line.as_slice()[3..])?;
+    let bare = Vec::from_slice(alloc, behind_mark(before, line.as_slice()))?;
     Ok(bare)
+}
+
+/// The bytes of a line behind the byte order mark, which only the first line of a file may have.
+fn behind_mark(before: u32, line: &[u8]) -> &[u8]
+    ensures { result.now ≡ unmarked before line.now }
+{
+    if before == 0 && line.starts_with(&BYTE_ORDER_MARK) {
+        &line[3..]
+    } else {
+        line
+    }
 }
 
 /// Reads a file in pieces. The lines that were taken from it, followed by those that wait, are the ended
