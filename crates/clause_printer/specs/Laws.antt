@@ -1,4 +1,4 @@
--- The clauses that lines spell, by what they hold, and the law of the printed line.
+-- The clauses that lines spell, by what they hold, and the law of the printed line. (Own.)
 use Rattle.std.specs.Prelude.{◌≡◌, ◌<◌, ◌↔◌, ℕ, Bool, false, List, [], Option, None, Some, length}
 use Rattle.std.specs.List.{All, AllPass, list_any}
 use Rattle.std.specs.Str.{IsUtf8}

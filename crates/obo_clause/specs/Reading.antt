@@ -1,4 +1,4 @@
--- How the parts of a clause are read, as functions from left to right: the code goes by these, and they are proved to find
+-- How the parts of a clause are read, as functions from left to right: a reader goes by these, and they are proved to find
 -- what the grammar allows and nothing else. A run is the longest front of marks of its class. (Own.)
 use Rattle.std.specs.Prelude.{◌≡◌, ℕ, zero, suc, ◌==◌, ◌&&◌, ◌||◌, Bool, true, not, if◌then◌else◌, List, [], ◌∷◌, ◌++◌, Option, None, Some, Result, Ok, Err, drop, is_some, length, take}
 use Rattle.std.specs.Borrow.{Bor}

@@ -1,4 +1,4 @@
--- How values and whole lines are read, as functions: the code goes by these, and they are proved to answer what the line
+-- How values and whole lines are read, as functions: a reader goes by these, and they are proved to answer what the line
 -- says, or what is wrong with it. (Own.)
 use Rattle.std.specs.Prelude.{◌≡◌, ℕ, ◌==◌, ◌&&◌, Bool, true, false, not, if◌then◌else◌, List, [], ◌∷◌, Option, None, Some, Ok, Err, codes, drop, length, nat_eq}
 use Rattle.std.specs.Borrow.{Bor}

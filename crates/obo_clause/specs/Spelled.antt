@@ -1,4 +1,4 @@
--- The clauses that lines spell: what a document may hold, and what can be printed.
+-- The clauses that lines spell: what a document may hold, and what can be printed. (Own.)
 use Rattle.std.specs.Prelude.{◌≡◌, ℕ, Bool, false, List}
 use Rattle.std.specs.List.{list_any}
 use Rattle.std.specs.Str.{IsUtf8}

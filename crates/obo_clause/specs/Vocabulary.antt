@@ -1,4 +1,5 @@
--- The bytes and marks that lines are made of: which ones stand in which part, and which ones are signs.
+-- The bytes and marks that lines are made of: which ones stand in which part, and which ones are signs. (OBO Flat File
+-- Format 1.4, the escape characters, dbxref lists and trailing qualifiers; which byte ends which part is our own.)
 use Rattle.std.specs.Prelude.{ℕ, ◌==◌, ◌&&◌, ◌||◌, Bool, not, List, ◌∷◌, codes}
 use Rattle.std.specs.Char.{is_ascii_alphanumeric}
 use Rattle.std.specs.List.{list_any}

@@ -26,9 +26,13 @@ pub struct Xref {
 /// How near the meaning of a synonym is to that of the name.
 #[derive(Clone, Copy, Debug, PartialEq, Eq)]
 pub enum Scope {
+    /// The same, written `EXACT`.
     Exact,
+    /// The synonym means more, written `BROAD`.
     Broad,
+    /// The synonym means less, written `NARROW`.
     Narrow,
+    /// Neither is said, written `RELATED`.
     Related,
 }
 
@@ -45,38 +49,54 @@ pub enum Value {
     Bool(bool),
     /// A definition and its dbxrefs.
     Def {
+        /// What stands between the quotes.
         text: Bytes,
+        /// Where the definition comes from.
         xrefs: Items<Xref>,
     },
     /// A synonym, its scope, its type if it has one, and its dbxrefs.
     Synonym {
+        /// The other name, from between the quotes.
         text: Bytes,
+        /// The scope that is written, or `Related`.
         scope: Scope,
+        /// The id of a synonym type of the header.
         kind: Option<Bytes>,
+        /// Where the synonym comes from.
         xrefs: Items<Xref>,
     },
     /// The dbxref of an `xref` clause.
     XrefValue(Xref),
     /// A property and a text of a datatype, of `property_value`.
     Literal {
+        /// The property.
         relation: Bytes,
+        /// What stands between the quotes.
         text: Bytes,
+        /// The datatype that is written, or `xsd:string`.
         datatype: Bytes,
     },
     /// A property and what it leads to, of `property_value`.
     Link {
+        /// The property.
         relation: Bytes,
+        /// The id that it leads to.
         target: Bytes,
     },
     /// A subset and its description.
     SubsetDef {
+        /// The name by which Terms are put into the subset.
         id: Bytes,
+        /// The description.
         text: Bytes,
     },
     /// A synonym type, its description, and the scope that it implies, if it has one.
     SynonymDef {
+        /// The name by which synonyms have the type.
         id: Bytes,
+        /// The description.
         text: Bytes,
+        /// The scope that is written behind the description.
         scope: Option<Scope>,
     },
     /// The rest of the line as it stands, behind a tag that is foreign in the frame.

@@ -5,7 +5,7 @@ ghost use Rattle.obo_clause.specs.declared.line.LineFault.TheVariants as fault;
 use crate::Clause;
 use obo_tags::FrameKind;
 use rel_io::{Dup, NoMemory};
-use std::alloc::{AllocError, AllocFailed, Global};
+use std::alloc::Global;
 
 /// What a line says.
 #[derive(Debug, PartialEq, Eq, Drop)]
@@ -84,22 +84,6 @@ impl From<NoMemory> for LineFault {
     ghost from_gives = { λ _ made. made ≡ fault.NoMemory };
 
     fn from(_: NoMemory) -> LineFault {
-        LineFault::NoMemory
-    }
-}
-
-impl From<AllocError> for LineFault {
-    ghost from_gives = { λ _ made. made ≡ fault.NoMemory };
-
-    fn from(_: AllocError) -> LineFault {
-        LineFault::NoMemory
-    }
-}
-
-impl<T: Drop> From<AllocFailed<T>> for LineFault {
-    ghost from_gives = { λ _ made. made ≡ fault.NoMemory };
-
-    fn from(_: AllocFailed<T>) -> LineFault {
         LineFault::NoMemory
     }
 }

@@ -1,4 +1,4 @@
--- The document of a file, or its fault. (The order of faults is our own.)
+-- The document of a file, or its fault, and the order of faults. (Own.)
 use Rattle.std.specs.Prelude.{◌≡◌, ◌⊎◌, ℕ, List, [], ◌∷◌, Option, None, Some, Result, Ok, Err, if◌then◌else◌, min, nat_lt}
 use Rattle.obo_lexer.specs.Items.{lines_of}
 use Rattle.obo_frames.specs.Frames.{lines_without_id, placed_of}

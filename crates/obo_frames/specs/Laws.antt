@@ -1,4 +1,4 @@
--- What the definitions of documents amount to, in other words.
+-- What the definitions of documents amount to, in other words. (Own.)
 use Rattle.std.specs.Prelude.{◌≡◌, ◌⊎◌, ◌≤◌, ℕ, Bool, List, [], None, Some, codes, Contains, map}
 use Rattle.std.specs.List.Sorted.{IsStrictlyIncreasing}
 use Rattle.obo_lexer.specs.Items.{lines_of}

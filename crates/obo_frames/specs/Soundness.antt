@@ -1,4 +1,4 @@
--- What every document keeps.
+-- What every document keeps. (Own.)
 use Rattle.std.specs.Prelude.{◌≡◌, ◌↔◌, ℕ, List, [], codes, Contains}
 use Rattle.obo_tags.specs.declared.kind.FrameKind.TheVariants as kinds
 use Rattle.obo_clause.specs.Spelled.{IsSpelledIn}
