@@ -30,10 +30,8 @@ fn field_at(marks: &[Mark]) -> Option<Field<'_>>
     if key.is_empty() {
         return None;
     }
-    match behind_sign(b'=', behind_blanks(rest)) {
-        None => None,
-        Some(value) => field_value(key, behind_blanks(value)),
-    }
+    let value = behind_sign(b'=', behind_blanks(rest))?;
+    field_value(key, behind_blanks(value))
 }
 
 /// The value of a qualifier behind its key. Without quotes it ends at a `{` or `"` too, so that no part of a line is
@@ -67,14 +65,12 @@ fn quoted_field<'a>(key: &'a [Mark], marks: &'a [Mark]) -> Option<Field<'a>>
         (read.quoted_field key.now marks.now ≡ None)
         (λ field. read.quoted_field key.now marks.now ≡ Some (field.key.now, field.value.now, field.rest.now)) }
 {
-    match inside_quotes(marks) {
-        None => None,
-        Some((value, rest)) => Some(Field {
-            key,
-            value,
-            rest: behind_blanks(rest),
-        }),
-    }
+    let (value, rest) = inside_quotes(marks)?;
+    Some(Field {
+        key,
+        value,
+        rest: behind_blanks(rest),
+    })
 }
 
 /// What a qualifier is kept as.
@@ -114,16 +110,14 @@ fn qualifiers_in(
 fn block_end(qualifiers: Vec<Qualifier>, marks: &[Mark]) -> Option<(Items<Qualifier>, &[Mark])>
     ensures { FindsWith (read.block_end qualifiers.items marks.now) result }
 {
-    match behind_sign(b'}', marks) {
-        None => None,
-        Some(rest) => Some((Items::from_vec(qualifiers), rest)),
-    }
+    let rest = behind_sign(b'}', marks)?;
+    Some((Items::from_vec(qualifiers), rest))
 }
 
 /// The qualifiers of the ending, if the marks are one. It looks no further than the next `{` that stands outside
 /// quotes.
 #[tactic(auto, unfolding(obo_clause::specs::Reading::ending_at))]
-pub fn ending_at(alloc: Global, marks: &[Mark]) -> Result<Option<Items<Qualifier>>, NoMemory>
+fn ending_at(alloc: Global, marks: &[Mark]) -> Result<Option<Items<Qualifier>>, NoMemory>
     ensures { IfOk result (λ found. found ≡ read.ending_at marks.now) }
 {
     if is_comment(marks) {
@@ -157,17 +151,17 @@ fn block_ending(alloc: Global, marks: &[Mark]) -> Result<Option<Items<Qualifier>
 pub fn end_at(alloc: Global, marks: &[Mark]) -> Result<Items<Qualifier>, LineFault>
     ensures { Gives (read.end_at marks.now) result }
 {
-    match ending_at(alloc, behind_blanks(marks))? {
-        None => Err(LineFault::Syntax(SyntaxKind::Trailing)),
-        Some(qualifiers) => Ok(qualifiers),
-    }
+    ending_at(alloc, behind_blanks(marks))?.ok_or(LineFault::Syntax(SyntaxKind::Trailing))
 }
 
 /// A run of characters, what stands behind it, and the qualifiers of that where it is an ending.
 #[derive(Drop)]
 pub struct FreeRun<'a> {
+    /// The run, with the blanks at its end.
     pub run: &'a [Mark],
+    /// What stands behind it.
     pub rest: &'a [Mark],
+    /// None: what stands behind the run is no ending.
     pub qualifiers: Option<Items<Qualifier>>,
 }
 

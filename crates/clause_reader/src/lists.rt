@@ -16,7 +16,9 @@ use std::alloc::Global;
 struct Slot<'a> {
     /// The entry without outer blanks. An empty one is skipped.
     id: &'a [Mark],
+    /// What stands between the quotes, if there are some.
     label: Option<&'a [Mark]>,
+    /// What stands behind the entry.
     rest: &'a [Mark],
 }
 
@@ -106,10 +108,8 @@ fn xrefs_in(alloc: Global, marks: &[Mark]) -> Result<(Items<Xref>, &[Mark]), Lin
 fn list_end(xrefs: Vec<Xref>, marks: &[Mark]) -> Result<(Items<Xref>, &[Mark]), LineFault>
     ensures { GivesWith (read.list_end xrefs.items marks.now) result }
 {
-    match behind_sign(b']', marks) {
-        None => Err(LineFault::Syntax(SyntaxKind::XrefList)),
-        Some(rest) => Ok((Items::from_vec(xrefs), rest)),
-    }
+    let rest = behind_sign(b']', marks).ok_or(SyntaxKind::XrefList)?;
+    Ok((Items::from_vec(xrefs), rest))
 }
 
 /// The list behind blanks, if there is one, and the rest. An absent list is an empty one.

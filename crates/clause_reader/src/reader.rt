@@ -67,7 +67,7 @@ fn frame_name(bytes: &[u8]) -> Option<(FrameKind, &[u8])>
     }
 }
 
-/// The same, but for a Term.
+/// The frame kind that is named, where it is Typedef or Instance.
 fn later_name(bytes: &[u8]) -> Option<(FrameKind, &[u8])>
     ensures { FindsBytes (read.later_name bytes.now) result }
 {
@@ -77,14 +77,12 @@ fn later_name(bytes: &[u8]) -> Option<(FrameKind, &[u8])>
     }
 }
 
-/// The same of an Instance alone.
+/// The frame kind that is named, where it is Instance.
 fn instance_name(bytes: &[u8]) -> Option<(FrameKind, &[u8])>
     ensures { FindsBytes (read.instance_name bytes.now) result }
 {
-    match bytes.strip_prefix(b"Instance]") {
-        None => None,
-        Some(rest) => Some((FrameKind::Instance, rest)),
-    }
+    let rest = bytes.strip_prefix(b"Instance]")?;
+    Some((FrameKind::Instance, rest))
 }
 
 /// A clause line without the blanks at its beginning.
@@ -114,7 +112,7 @@ fn read_tagged(
     ensures { Gives (read.read_tagged kind first tag.now bytes.now) result }
 {
     let read = read_shape(alloc, shape_at(kind, first, tag), bytes)?;
-    let tag = Bytes::from_vec(Vec::from_slice(alloc, tag)?);
+    let tag = Bytes::from_slice(alloc, tag)?;
     Ok(Line::Content(Clause {
         tag,
         value: read.value,

@@ -48,10 +48,7 @@ pub fn want_word(marks: &[Mark]) -> Result<(&[Mark], &[Mark]), SyntaxKind>
         (λ word. want_word marks.now ≡ Ok (word.0.now, word.1.now))
         (λ one. want_word marks.now ≡ Err one) }
 {
-    match word_at(marks) {
-        None => Err(SyntaxKind::NoValue),
-        Some((word, rest)) => Ok((word, rest)),
-    }
+    word_at(marks).ok_or(SyntaxKind::NoValue)
 }
 
 /// The inside of a quoted text, from behind its first `"` on, and the rest.
@@ -62,10 +59,8 @@ pub fn inside_quotes(marks: &[Mark]) -> Option<(&[Mark], &[Mark])>
         (λ text. read.inside_quotes marks.now ≡ Some (text.0.now, text.1.now)) }
 {
     let (inside, end) = split_run(Class::Quoted, marks);
-    match behind_sign(b'"', end) {
-        None => None,
-        Some(rest) => Some((inside, rest)),
-    }
+    let rest = behind_sign(b'"', end)?;
+    Some((inside, rest))
 }
 
 /// The inside of the quoted text behind blanks, and the rest.
@@ -75,10 +70,8 @@ pub fn quoted_at(marks: &[Mark]) -> Result<(&[Mark], &[Mark]), SyntaxKind>
         (λ text. read.quoted_at marks.now ≡ Ok (text.0.now, text.1.now))
         (λ one. read.quoted_at marks.now ≡ Err one) }
 {
-    match behind_sign(b'"', behind_blanks(marks)) {
-        None => Err(SyntaxKind::NoQuote),
-        Some(inside) => end_of_quotes(inside),
-    }
+    let inside = behind_sign(b'"', behind_blanks(marks)).ok_or(SyntaxKind::NoQuote)?;
+    end_of_quotes(inside)
 }
 
 /// The inside of a quoted text, from behind its first `"` on, and the rest.
@@ -87,8 +80,5 @@ pub fn end_of_quotes(marks: &[Mark]) -> Result<(&[Mark], &[Mark]), SyntaxKind>
         (λ text. read.end_of_quotes marks.now ≡ Ok (text.0.now, text.1.now))
         (λ one. read.end_of_quotes marks.now ≡ Err one) }
 {
-    match inside_quotes(marks) {
-        None => Err(SyntaxKind::OpenQuote),
-        Some((inside, rest)) => Ok((inside, rest)),
-    }
+    inside_quotes(marks).ok_or(SyntaxKind::OpenQuote)
 }

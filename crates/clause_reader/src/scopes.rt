@@ -33,8 +33,11 @@ fn scope_of(word: &Bytes) -> Option<Scope>
 /// What stands between the text of a synonym and its list.
 #[derive(Drop)]
 pub struct Scoped<'a> {
+    /// The scope that is written, or `Related`.
     pub scope: Scope,
+    /// The type, if one is written.
     pub kind: Option<Bytes>,
+    /// What stands behind both.
     pub rest: &'a [Mark],
 }
 

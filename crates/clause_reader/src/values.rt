@@ -49,7 +49,7 @@ fn read_raw(alloc: Global, bytes: &[u8]) -> Result<Content, LineFault>
     ensures { Gives (read.read_raw bytes.now) result }
 {
     let text = without_last_blanks(behind_blank_bytes(bytes));
-    let text = Bytes::from_vec(Vec::from_slice(alloc, text)?);
+    let text = Bytes::from_slice(alloc, text)?;
     Ok(Content {
         value: Value::Raw(text),
         qualifiers: Items::from_vec(Vec::new(alloc)),
@@ -249,7 +249,7 @@ fn datatype_of(alloc: Global, word: Option<&[Mark]>) -> Result<Bytes, LineFault>
     ensures { Gives (Ok (read.datatype_of (option_copied word.entry))) result }
 {
     match word {
-        None => Ok(Bytes::from_vec(Vec::from_slice(alloc, TEXT_DATATYPE)?)),
+        None => Ok(Bytes::from_slice(alloc, TEXT_DATATYPE)?),
         Some(word) => Ok(text_of(alloc, word)?),
     }
 }
