@@ -1,9 +1,9 @@
 //! `Document`: the placed clauses of a file.
-ghost use Rattle.std.specs.Prelude.{◌≡◌, ◌<◌, IfOk, Some, length, slice_get};
+ghost use Rattle.std.specs.Prelude.{◌≡◌, ◌<◌, Some, length, slice_get};
 ghost use Rattle.obo_frames.specs.Soundness.{IsSound};
 
 use crate::Placed;
-use rel_io::{Dup, NoMemory};
+use rel_io::{Dup, Items, NoMemory};
 use std::alloc::Global;
 use std::marker::Model;
 
@@ -12,7 +12,7 @@ use std::marker::Model;
 /// no Term has a group of one expression alone.
 #[derive(Debug, Drop)]
 pub struct Document {
-    placed: Vec<Placed>,
+    placed: Items<Placed>,
 }
 
 impl Model for Document {
@@ -26,9 +26,9 @@ impl Model for Document {
 
     ghost coded = { Prim.hlevel (codes, row.the_row.coded) };
 
-    ghost view = { λ document. document.placed.items };
+    ghost view = { λ document. document.placed };
 
-    ghost invariant = { λ document. IsSound document.placed.items };
+    ghost invariant = { λ document. IsSound document.placed };
 }
 
 impl Document {
@@ -37,7 +37,9 @@ impl Document {
         requires { IsSound placed.items }
         ensures { result ≡ placed.items }
     {
-        Document { placed }
+        Document {
+            placed: Items::from_vec(placed),
+        }
     }
 
     /// How many clauses are placed. What every document keeps is told here.
@@ -45,7 +47,7 @@ impl Document {
         ensures len { result ≡ length self.now }
         ensures sound { IsSound self.now }
     {
-        self.placed.len()
+        self.placed.as_slice().len()
     }
 
     /// The clause at a place, from 0.
@@ -53,25 +55,13 @@ impl Document {
         requires { at < length self.now }
         ensures { slice_get self.now at ≡ Some result.now }
     {
-        &self.placed[at]
+        &self.placed.as_slice()[at]
     }
 }
 
 impl Dup for Document {
     fn copy(&self, alloc: Global) -> Result<Document, NoMemory> {
-        let placed = copies(alloc, self.placed.as_slice())?;
+        let placed = self.placed.copy(alloc)?;
         Ok(Document { placed })
     }
-}
-
-/// A copy of each placed clause, in order.
-fn copies(alloc: Global, placed: &[Placed]) -> Result<Vec<Placed>, NoMemory>
-    ensures { IfOk result (λ twins. twins.items ≡ placed.now) }
-{
-    let mut twins = Vec::with_capacity(alloc, placed.len())?;
-    for one in placed {
-        let twin = one.copy(alloc)?;
-        twins.push(twin)?;
-    }
-    Ok(twins)
 }

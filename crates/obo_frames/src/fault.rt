@@ -4,7 +4,7 @@ ghost use Rattle.obo_frames.specs.declared.fault.DocFault.TheVariants as fault;
 
 use obo_clause::SyntaxKind;
 use rel_io::{Dup, NoMemory};
-use std::alloc::{AllocError, AllocFailed, Global};
+use std::alloc::Global;
 
 /// The first fault of a file, at a line that is counted from 1.
 #[derive(Clone, Copy, Debug, PartialEq, Eq)]
@@ -33,22 +33,6 @@ impl From<NoMemory> for DocFault {
     ghost from_gives = { λ _ made. made ≡ fault.NoMemory };
 
     fn from(_: NoMemory) -> DocFault {
-        DocFault::NoMemory
-    }
-}
-
-impl From<AllocError> for DocFault {
-    ghost from_gives = { λ _ made. made ≡ fault.NoMemory };
-
-    fn from(_: AllocError) -> DocFault {
-        DocFault::NoMemory
-    }
-}
-
-impl<T: Drop> From<AllocFailed<T>> for DocFault {
-    ghost from_gives = { λ _ made. made ≡ fault.NoMemory };
-
-    fn from(_: AllocFailed<T>) -> DocFault {
         DocFault::NoMemory
     }
 }

@@ -20,7 +20,7 @@ use std::collections::BTreeMap;
 
 /// The expression that a clause of a group stands for.
 #[derive(Debug, Drop)]
-pub enum Expression {
+enum Expression {
     /// The class of this IRI.
     Class(Iri),
     /// What some filler of a role is: the IRIs of the role and of the filler.
@@ -29,17 +29,18 @@ pub enum Expression {
 
 /// A clause of a group.
 #[derive(Debug, Drop)]
-pub struct Operand {
+struct Operand {
     /// The number of its line.
-    pub line: u32,
+    line: u32,
     /// The IRI of its Term.
-    pub group: Iri,
-    pub expression: Expression,
+    group: Iri,
+    /// The expression that it stands for.
+    expression: Expression,
 }
 
 /// The expressions of a group.
 #[derive(Debug, Drop)]
-pub enum Summary {
+enum Summary {
     /// All clauses stand for this one.
     One(Expression),
     /// They stand for more than one.

@@ -13,6 +13,7 @@ pub struct Placed {
     pub id: Bytes,
     /// The number of the line, from 1.
     pub line: u32,
+    /// The clause, without qualifiers where it is the `id` clause that gives the frame its id.
     pub clause: Clause,
 }
 

@@ -1,9 +1,9 @@
 //! The clauses of a file, each put into its place.
-ghost use Rattle.std.specs.Prelude.{◌≡◌, ◌++◌, [], IfOk, None};
+ghost use Rattle.std.specs.Prelude.{◌≡◌, ◌∷◌, ◌++◌, [], IfOk, None};
 ghost use Rattle.std.specs.Option.{option_copied};
 ghost use Rattle.obo_frames.specs.Documents.{least_line, lesser_line};
 ghost use Rattle.obo_frames.specs.Frames as spec;
-ghost use Rattle.obo_frames.specs.declared.standing.Standing.TheVariants.{Header};
+ghost use Rattle.obo_frames.specs.declared.standing.Standing.TheVariants.{Header, Within};
 ghost use Rattle.obo_frames.specs.Standing.{behind_clause, behind_line, lost_at_clause, lost_at_end, lost_at_line, lost_unless, named, place_first, placed_by_clause, placed_by_line};
 
 use crate::Placed;
@@ -29,7 +29,9 @@ pub enum Standing {
 /// What was placed so far.
 #[derive(Drop)]
 pub struct Draft {
+    /// What the next clause belongs to.
     pub standing: Standing,
+    /// The clauses, in the order of their lines.
     pub placed: Vec<Placed>,
     /// The least line at which a frame without an id begins.
     pub lost: Option<u32>,
@@ -97,40 +99,24 @@ fn placed_clause(alloc: Global, draft: Draft, line: u32, clause: Clause) -> Resu
 {
     let Draft {
         standing,
-        mut placed,
+        placed,
         lost,
     } = draft;
     match standing {
         Standing::Header => {
-            let id = Bytes::from_vec(Vec::new(alloc));
-            placed.push(Placed {
+            let one = Placed {
                 frame: FrameKind::Header,
-                id,
+                id: Bytes::from_vec(Vec::new(alloc)),
                 line,
                 clause,
-            })?;
-            Ok(Draft {
-                standing: Standing::Header,
-                placed,
-                lost,
-            })
+            };
+            with_placed(placed, lost, one, Standing::Header)
         }
         Standing::Begun { kind, line: begun } => {
             placed_first(alloc, placed, lost, kind, begun, line, clause)
         }
         Standing::Within { kind, id } => {
-            let twin = id.copy(alloc)?;
-            placed.push(Placed {
-                frame: kind,
-                id: twin,
-                line,
-                clause,
-            })?;
-            Ok(Draft {
-                standing: Standing::Within { kind, id },
-                placed,
-                lost,
-            })
+            placed_within(alloc, placed, lost, kind, id, line, clause)
         }
         Standing::Nameless => Ok(Draft {
             standing: Standing::Nameless,
@@ -143,7 +129,7 @@ fn placed_clause(alloc: Global, draft: Draft, line: u32, clause: Clause) -> Resu
 /// The first clause of a frame, which is to give the id.
 fn placed_first(
     alloc: Global,
-    mut placed: Vec<Placed>,
+    placed: Vec<Placed>,
     lost: Option<u32>,
     kind: FrameKind,
     begun: u32,
@@ -163,16 +149,47 @@ fn placed_first(
         });
     };
     let id = id.copy(alloc)?;
-    let twin = id.copy(alloc)?;
     let clause = without_qualifiers(alloc, clause);
-    placed.push(Placed {
+    placed_within(alloc, placed, lost, kind, id, line, clause)
+}
+
+/// A clause of the frame with this id.
+fn placed_within(
+    alloc: Global,
+    placed: Vec<Placed>,
+    lost: Option<u32>,
+    kind: FrameKind,
+    id: Bytes,
+    line: u32,
+    clause: Clause,
+) -> Result<Draft, NoMemory>
+    ensures standing { IfOk result (λ next. next.standing ≡ Within kind id) }
+    ensures placed { IfOk result (λ next. next.placed.items ≡ placed.items ++ spec.place kind id (record { line = line; clause = clause }) ∷ []) }
+    ensures lost { IfOk result (λ next. next.lost ≡ lost) }
+{
+    let one = Placed {
         frame: kind,
-        id: twin,
+        id: id.copy(alloc)?,
         line,
         clause,
-    })?;
+    };
+    with_placed(placed, lost, one, Standing::Within { kind, id })
+}
+
+/// One placed clause more, and what the clauses behind it belong to.
+fn with_placed(
+    mut placed: Vec<Placed>,
+    lost: Option<u32>,
+    one: Placed,
+    standing: Standing,
+) -> Result<Draft, NoMemory>
+    ensures standing { IfOk result (λ next. next.standing ≡ standing) }
+    ensures placed { IfOk result (λ next. next.placed.items ≡ placed.items ++ one ∷ []) }
+    ensures lost { IfOk result (λ next. next.lost ≡ lost) }
+{
+    placed.push(one)?;
     Ok(Draft {
-        standing: Standing::Within { kind, id },
+        standing,
         placed,
         lost,
     })

@@ -8,14 +8,18 @@ use obo_tags::FrameKind;
 /// Where a line stands: in a frame of this kind, and before all clauses there or not.
 #[derive(Clone, Copy)]
 pub struct Place {
+    /// The kind of the frame.
     pub kind: FrameKind,
+    /// Whether no clause of the frame stands before it.
     pub is_first: bool,
 }
 
 /// What the line of a number says.
 #[derive(Drop)]
 pub struct Told {
+    /// The number of the line, from 1.
     pub line: u32,
+    /// What the line says.
     pub said: Line,
 }
 
