@@ -1,11 +1,19 @@
 //! The bytes of a line: which ones are blanks, make a tag, or end a word.
 ghost use Rattle.std.specs.Prelude.{◌≡◌, ◌≤◌, ◌||◌, ◌∷◌, codes, length};
 ghost use Rattle.std.specs.List.{list_all, prefix_len};
+ghost use Rattle.std.specs.Str.{bytes_eq};
 ghost use Rattle.obo_lexer.specs.Tokens.{is_blank};
 ghost use Rattle.obo_clause.specs.Reading.{behind, trim_end};
 ghost use Rattle.clause_reader.specs.Results.{parts_lent};
 ghost use Rattle.obo_clause.specs.ReadingLines.{at_colon, is_before_colon, is_line_comment, is_tag};
 ghost use Rattle.obo_clause.specs.Vocabulary.{is_one_of, is_tag_byte};
+
+/// Whether the bytes are those of the word.
+pub fn is_word(bytes: &[u8], word: &[u8]) -> bool
+    ensures { result ≡ bytes_eq bytes.now word.now }
+{
+    bytes == word
+}
 
 /// Whether the byte is a space or a tab.
 pub fn is_blank(byte: u8) -> bool

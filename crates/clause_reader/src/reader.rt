@@ -7,7 +7,7 @@ ghost use Rattle.obo_clause.specs.ReadingLines as read;
 ghost use Rattle.obo_clause.specs.Spelling.{Says, shape_at};
 
 use crate::bytes::{
-    behind_blank_bytes, is_line_comment, is_tag, split_at_colon, without_last_blanks,
+    behind_blank_bytes, is_line_comment, is_tag, is_word, split_at_colon, without_last_blanks,
 };
 use crate::values::read_shape;
 use obo_clause::{Clause, Line, LineFault, SyntaxKind};
@@ -134,5 +134,5 @@ fn shape_at(kind: FrameKind, first: bool, tag: &[u8]) -> ValueShape
 fn is_late_id(first: bool, tag: &[u8]) -> bool
     ensures { result ≡ (bytes_eq tag.now (codes "id") && not first) }
 {
-    tag == b"id".as_slice() && !first
+    is_word(tag, b"id") && !first
 }

@@ -4,6 +4,7 @@ ghost use Rattle.std.specs.Option.{option_copied};
 ghost use Rattle.clause_reader.specs.Results.{Gives, GivesWith};
 ghost use Rattle.obo_clause.specs.ReadingLines as read;
 
+use crate::bytes::is_word;
 use crate::marks::text_of;
 use crate::runs::word_at;
 use obo_clause::{LineFault, Mark, Scope, SyntaxKind};
@@ -15,16 +16,16 @@ fn scope_of(word: &Bytes) -> Option<Scope>
     ensures { result ≡ read.scope_of word.now }
 {
     let word = word.as_slice();
-    if word == b"EXACT".as_slice() {
+    if is_word(word, b"EXACT") {
         return Some(Scope::Exact);
     }
-    if word == b"BROAD".as_slice() {
+    if is_word(word, b"BROAD") {
         return Some(Scope::Broad);
     }
-    if word == b"NARROW".as_slice() {
+    if is_word(word, b"NARROW") {
         return Some(Scope::Narrow);
     }
-    if word == b"RELATED".as_slice() {
+    if is_word(word, b"RELATED") {
         return Some(Scope::Related);
     }
     None

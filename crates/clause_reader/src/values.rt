@@ -1,12 +1,13 @@
 //! Values, each in the shape of its tag, with the qualifiers of the ending behind them.
-ghost use Rattle.std.specs.Prelude.{◌≡◌, MatchResult, Ok, Err};
+ghost use Rattle.std.specs.Prelude.{◌≡◌, ◌≢◌, ℕ, List, MatchResult, Ok, Err};
 ghost use Rattle.std.specs.Option.{option_copied};
 ghost use Rattle.obo_clause.specs.Marks as spec;
 ghost use Rattle.clause_reader.specs.Results.{Gives};
+ghost use Rattle.obo_tags.specs.declared.kind.ValueShape.TheVariants.{Raw};
 ghost use Rattle.obo_clause.specs.ReadingLines as read;
 
 use crate::blocks::{FreeRun, end_at, free_run};
-use crate::bytes::{behind_blank_bytes, without_last_blanks};
+use crate::bytes::{behind_blank_bytes, is_word, without_last_blanks};
 use crate::lists::list_at;
 use crate::marks::{behind_blanks, marks_of, text_of, trim_end};
 use crate::runs::{behind_sign, quoted_at, want_word, word_at};
@@ -23,11 +24,17 @@ const TEXT_DATATYPE: &[u8] = b"xsd:string";
 pub fn read_shape(alloc: Global, shape: ValueShape, bytes: &[u8]) -> Result<Content, LineFault>
     ensures { Gives (read.read_shape shape bytes.now) result }
 {
-    if shape == ValueShape::Raw {
-        return read_raw(alloc, bytes);
+    match shape {
+        ValueShape::Raw => read_raw(alloc, bytes),
+        _ => read_marked(alloc, shape, marks_of(alloc, bytes)?.as_slice()),
     }
-    let marks = marks_of(alloc, bytes)?;
-    let marks = marks.as_slice();
+}
+
+/// What is made of the marks behind the colon, by the shape of the value there.
+fn read_marked(alloc: Global, shape: ValueShape, marks: &[Mark]) -> Result<Content, LineFault>
+    requires { shape ≢ Raw }
+    ensures { (bytes : List ℕ) → marks.now ≡ spec.marks_of bytes → Gives (read.read_shape shape bytes) result }
+{
     match shape {
         ValueShape::Text => read_text(alloc, marks),
         ValueShape::Id => read_id(alloc, marks),
@@ -40,7 +47,7 @@ pub fn read_shape(alloc: Global, shape: ValueShape, bytes: &[u8]) -> Result<Cont
         ValueShape::Property => read_property(alloc, marks),
         ValueShape::SubsetDef => read_subset(alloc, marks),
         ValueShape::SynonymDef => read_synonym_type(alloc, marks),
-        ValueShape::Raw => read_raw(alloc, bytes),
+        ValueShape::Raw => unreachable!(),
     }
 }
 
@@ -74,14 +81,9 @@ fn read_text(alloc: Global, marks: &[Mark]) -> Result<Content, LineFault>
         qualifiers,
         ..
     } = free_run(alloc, false, behind_blanks(marks))?;
-    let Some(qualifiers) = qualifiers else {
-        return Err(LineFault::Syntax(SyntaxKind::Trailing));
-    };
-    let text = text_of(alloc, trim_end(run))?;
-    Ok(Content {
-        value: Value::Text(text),
-        qualifiers,
-    })
+    let qualifiers = qualifiers.ok_or(SyntaxKind::Trailing)?;
+    let value = Value::Text(text_of(alloc, trim_end(run))?);
+    Ok(Content { value, qualifiers })
 }
 
 /// One word.
@@ -128,10 +130,11 @@ fn truth_of(word: &Bytes) -> Result<bool, SyntaxKind>
         (λ truth. read.want_truth word.now ≡ Ok truth)
         (λ one. read.want_truth word.now ≡ Err one) }
 {
-    if word.as_slice() == b"true".as_slice() {
+    let word = word.as_slice();
+    if is_word(word, b"true") {
         return Ok(true);
     }
-    if word.as_slice() == b"false".as_slice() {
+    if is_word(word, b"false") {
         return Ok(false);
     }
     Err(SyntaxKind::BadBool)
@@ -167,16 +170,13 @@ fn read_synonym(alloc: Global, marks: &[Mark]) -> Result<Content, LineFault>
     let text = text_of(alloc, text)?;
     let scoped = scoped_at(alloc, rest)?;
     let (xrefs, rest) = list_at(alloc, scoped.rest)?;
-    ended(
-        alloc,
-        rest,
-        Value::Synonym {
-            text,
-            scope: scoped.scope,
-            kind: scoped.kind,
-            xrefs,
-        },
-    )
+    let value = Value::Synonym {
+        text,
+        scope: scoped.scope,
+        kind: scoped.kind,
+        xrefs,
+    };
+    ended(alloc, rest, value)
 }
 
 /// A run of characters, and its label.
@@ -233,15 +233,12 @@ fn read_literal(alloc: Global, relation: Bytes, marks: &[Mark]) -> Result<Conten
     let text = text_of(alloc, text)?;
     let (datatype, rest) = may_have_word(rest);
     let datatype = datatype_of(alloc, datatype)?;
-    ended(
-        alloc,
-        rest,
-        Value::Literal {
-            relation,
-            text,
-            datatype,
-        },
-    )
+    let value = Value::Literal {
+        relation,
+        text,
+        datatype,
+    };
+    ended(alloc, rest, value)
 }
 
 /// The datatype that a word is, or that of a text that has none.
