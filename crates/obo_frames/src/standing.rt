@@ -1,7 +1,6 @@
 //! The clauses of a file, each put into its place.
-ghost use Rattle.std.specs.Prelude.{◌≡◌, ◌∷◌, ◌++◌, [], IfOk, None, codes};
+ghost use Rattle.std.specs.Prelude.{◌≡◌, ◌∷◌, ◌++◌, [], IfOk, None};
 ghost use Rattle.std.specs.Option.{option_copied};
-ghost use Rattle.std.specs.Str.{bytes_eq};
 ghost use Rattle.obo_frames.specs.Documents.{least_line, lesser_line};
 ghost use Rattle.obo_frames.specs.Frames as spec;
 ghost use Rattle.obo_frames.specs.declared.standing.Standing.TheVariants.{Header, Within};
@@ -212,18 +211,11 @@ fn without_qualifiers(alloc: Global, clause: Clause) -> Clause
 fn id_in(clause: &Clause) -> Option<&Bytes>
     ensures { option_copied result ≡ spec.id_in clause.now }
 {
-    if is_id(clause.tag.as_slice()) {
+    if clause.tag.as_slice() == b"id".as_slice() {
         word_in(&clause.value)
     } else {
         None
     }
-}
-
-/// Whether the tag is `id`.
-fn is_id(tag: &[u8]) -> bool
-    ensures { result ≡ bytes_eq tag.now (codes "id") }
-{
-    tag == b"id".as_slice()
 }
 
 /// The word that a value is.
