@@ -1,5 +1,5 @@
 //! Clauses with the lines that are printed of them, worked out by hand.
-ghost use Rattle.std.specs.Prelude.{IfOk};
+ghost use Rattle.std.specs.Prelude.{◌≡◌, IfOk};
 ghost use Rattle.obo_clause.specs.Spelled.{CanBeSpelled};
 
 use crate::print_clause;
@@ -226,18 +226,28 @@ fn first_xref(xrefs: Items<Xref>) -> Option<Value> {
 fn example(alloc: Global) -> Result<Clause, NoMemory>
     ensures { IfOk result CanBeSpelled }
 {
-    let tag = Bytes::from_vec(Vec::from_slice(alloc, b"name")?);
-    let text = Bytes::from_vec(Vec::from_slice(alloc, b"a {b}")?);
-    let key = Bytes::from_vec(Vec::from_slice(alloc, b"x")?);
-    let value = Bytes::from_vec(Vec::from_slice(alloc, b"1")?);
+    let tag = Bytes::from_slice(alloc, b"name")?;
+    let text = Bytes::from_slice(alloc, b"a {b}")?;
+    let first = qualifier(alloc, b"x", b"1")?;
+    let second = qualifier(alloc, b"y", b"2")?;
     let mut qualifiers = Vec::new(alloc);
-    qualifiers.push(Qualifier { key, value })?;
+    qualifiers.push(first)?;
+    qualifiers.push(second)?;
     let qualifiers = Items::from_vec(qualifiers);
     Ok(Clause {
         tag,
         value: Value::Text(text),
         qualifiers,
     })
+}
+
+/// A qualifier of copies of these.
+fn qualifier(alloc: Global, key: &[u8], value: &[u8]) -> Result<Qualifier, NoMemory>
+    ensures { IfOk result (λ one. one ≡ record { key = key.now; value = value.now }) }
+{
+    let key = Bytes::from_slice(alloc, key)?;
+    let value = Bytes::from_slice(alloc, value)?;
+    Ok(Qualifier { key, value })
 }
 
 #[test]
@@ -247,7 +257,7 @@ fn lines_are_appended(rt: HostRuntime) -> Result<(), Fail> {
     print_clause(rt.alloc(), &clause, &mut out)?;
     assert_eq!(rt;
         out.as_slice(),
-        b"[Term]\nname: a \\{b} {x=\"1\"}".as_slice()
+        b"[Term]\nname: a \\{b} {x=\"1\", y=\"2\"}".as_slice()
     );
     Ok(())
 }

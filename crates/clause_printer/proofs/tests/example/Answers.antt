@@ -1,4 +1,4 @@
-use Rattle.std.proofs.Common.{◌≡◌, ℕ, Bool, true, false, List, [], ◌∷◌, ◌++◌, codes, refl, subst, ◌∙◌, ap, arith}
+use Rattle.std.proofs.Common.{◌≡◌, ◌<◌, ℕ, Bool, true, false, List, [], ◌∷◌, ◌++◌, codes, length, refl, subst, ◌∙◌, ap, arith}
 use Rattle.std.specs.List.{All, list_all}
 use Rattle.std.proofs.lemmas.Bool.{and_parts}
 use Rattle.std.proofs.lemmas.List.Elements.{All-cons, All-nil}
@@ -23,50 +23,48 @@ constant_pass p (byte ∷ bytes) all =
     let parts = and_parts (p byte) (list_all p bytes) all in
     All-cons (λ one. p one ≡ true) byte bytes parts.0 (constant_pass p bytes parts.1)
 
-qualifier : Qualifier
-qualifier = record { key = codes "x"; value = codes "1" }
+abbrev qualifier_of : List ℕ → List ℕ → Qualifier
+qualifier_of key value = record { key = key; value = value }
 
-qualifier_fits : FitsQualifier qualifier
-unfolding qualifier is_line_byte
-qualifier_fits = record {
-  some = omega arith;
-  each = constant_pass (λ byte. is_key_mark (bare byte)) (codes "x") refl;
-  utf8 = (constant_text (codes "x") refl).utf8;
-  value = constant_text (codes "1") refl;
+qualifier_fits : (key value : List ℕ) → 0 < length key → list_all (λ byte. is_key_mark (bare byte)) key ≡ true → list_all is_line_byte key ≡ true → list_all is_line_byte value ≡ true → FitsQualifier (qualifier_of key value)
+qualifier_fits key value some each line text = record {
+  some = some;
+  each = constant_pass (λ byte. is_key_mark (bare byte)) key each;
+  utf8 = (constant_text key line).utf8;
+  value = constant_text value text;
 }
 
+abbrev first : Qualifier
+first = qualifier_of (codes "x") (codes "1")
+
+abbrev second : Qualifier
+second = qualifier_of (codes "y") (codes "2")
+
+abbrev clause_of : List ℕ → List ℕ → List Qualifier → Clause
+clause_of tag text qualifiers = record { tag = tag; value = Text text; qualifiers = qualifiers }
+
 abbrev clause : Clause
-clause = record { tag = codes "name"; value = Text (codes "a {b}"); qualifiers = record { key = codes "x"; value = codes "1" } ∷ [] }
+clause = clause_of (codes "name") (codes "a {b}") (first ∷ second ∷ [])
 
 clause_fits : Fits Term false clause
-unfolding qualifier is_line_byte shape_of tags_of
+unfolding is_line_byte shape_of tags_of
 clause_fits = record {
   some = omega arith;
   each = constant_pass is_tag_byte (codes "name") refl;
   value = constant_text (codes "a {b}") refl;
-  qualifiers = All-cons FitsQualifier qualifier [] qualifier_fits (All-nil FitsQualifier);
+  qualifiers = All-cons FitsQualifier first (second ∷ []) (qualifier_fits (codes "x") (codes "1") (omega arith) refl refl refl)
+      (All-cons FitsQualifier second [] (qualifier_fits (codes "y") (codes "2") (omega arith) refl refl refl) (All-nil FitsQualifier));
 }
 
 clause_is_spelled : IsSpelled clause
 clause_is_spelled = record { kind = Term; spelled = record { first = false; spelled = fit_is_spelled Term false clause clause_fits } }
 
-abbrev qualifier_of : List ℕ → List ℕ → Qualifier
-qualifier_of key value = record { key = key; value = value }
-
-abbrev clause_of : List ℕ → List ℕ → List Qualifier → Clause
-clause_of tag text qualifiers = record { tag = tag; value = Text text; qualifiers = qualifiers }
-
-spelled_at : (tag text key value : List ℕ) (qualifiers : List Qualifier) → tag ≡ codes "name" → text ≡ codes "a {b}" → key ≡ codes "x" → value ≡ codes "1" → qualifiers ≡ qualifier_of key value ∷ [] → IsSpelled (clause_of tag text qualifiers)
-spelled_at tag text key value qualifiers is_tag is_text is_key is_value is =
+spelled_at : (tag text : List ℕ) (one two : Qualifier) (qualifiers : List Qualifier) → tag ≡ codes "name" → text ≡ codes "a {b}" → one ≡ first → two ≡ second → qualifiers ≡ one ∷ two ∷ [] → IsSpelled (clause_of tag text qualifiers)
+spelled_at tag text one two qualifiers is_tag is_text is_one is_two is =
     let same : clause ≡ clause_of tag text qualifiers = cc in
     subst IsSpelled same clause_is_spelled
 
 pub returns : goal.returns
 returns c =
-    let tag : c.from_vec-tag.result ≡ codes "name" = c.from_vec-tag.ensures ∙ c.in_ok-from_slice.ensures.items in
-    let text : c.from_vec-text.result ≡ codes "a {b}" = c.from_vec-text.ensures ∙ c.in_ok-from_slice-2.ensures.items in
-    let key : c.from_vec-key.result ≡ codes "x" = c.from_vec-key.ensures ∙ c.in_ok-from_slice-3.ensures.items in
-    let value : c.from_vec-value.result ≡ codes "1" = c.from_vec-value.ensures ∙ c.in_ok-from_slice-4.ensures.items in
-    let qualifiers : c.from_vec-qualifiers.result ≡ qualifier_of c.from_vec-key.result c.from_vec-value.result ∷ [] =
-    c.from_vec-qualifiers.ensures ∙ c.in_ok-push.ensures.items ∙ ap (λ l. l ++ qualifier_of c.from_vec-key.result c.from_vec-value.result ∷ []) c.new-qualifiers.ensures.items in
-    ∣ spelled_at _ _ _ _ _ tag text key value qualifiers ∣₁
+    let qualifiers = c.from_vec-qualifiers.ensures ∙ c.in_ok-push-2.ensures.items ∙ ap (λ l. l ++ c.in_ok-second.second ∷ []) (c.in_ok-push.ensures.items ∙ ap (λ l. l ++ c.in_ok-first.first ∷ []) c.new-qualifiers.ensures.items) in
+    ∣ spelled_at _ _ _ _ _ c.in_ok-tag.ensures c.in_ok-text.ensures c.in_ok-first.ensures c.in_ok-second.ensures qualifiers ∣₁
