@@ -118,11 +118,14 @@ fn placed_clause(alloc: Global, draft: Draft, line: u32, clause: Clause) -> Resu
         Standing::Within { kind, id } => {
             placed_within(alloc, placed, lost, kind, id, line, clause)
         }
-        Standing::Nameless => Ok(Draft {
-            standing: Standing::Nameless,
-            placed,
-            lost,
-        }),
+        Standing::Nameless => {
+            drop(clause);
+            Ok(Draft {
+                standing: Standing::Nameless,
+                placed,
+                lost,
+            })
+        }
     }
 }
 
