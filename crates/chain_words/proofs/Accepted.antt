@@ -1,4 +1,4 @@
---! What is known where words are read without a bad one.
+-- What is known where words are read without a bad one.
 use Rattle.std.proofs.Common.{◌≡◌, ℕ, ◌+◌, List, [], ◌∷◌, ◌++◌, length, Bool, true, false, cond, leb, ltb, Option, Some, None, Ok, Err, subst, refl}
 use Rattle.chain_words.specs.Word.{Word}
 use Rattle.chain_words.specs.Number.{size_of}

@@ -1,4 +1,4 @@
---! In an accepted chain no output is an input, and none stands twice.
+-- In an accepted chain no output is an input, and none stands twice.
 use Rattle.std.proofs.Common.{◌≡◌, ℕ, ◌+◌, ◌≤◌, List, [], ◌∷◌, ◌++◌, length, filter, Bool, true, false, ◌&&◌, ◌||◌, cond, ltb, append_assoc, zero, suc, Option, Some, None, Ok, ap, sym, subst, ◌∙◌, refl, arith, inl, inr, ◌⊎◌}
 use Rattle.std.specs.List.{list_any, filter_map, cons_option}
 use Rattle.std.specs.Cmp.Lexicographic.{bytes_decides}

@@ -1,4 +1,4 @@
---! In an accepted chain each output has the format that its name tells, unless `convert` says otherwise.
+-- In an accepted chain each output has the format that its name tells, unless `convert` says otherwise.
 use Rattle.std.proofs.Common.{◌≡◌, ℕ, List, [], ◌∷◌, ◌++◌, Bool, true, false, ◌&&◌, cond, zero, suc, Option, Some, None, option_and_then, unwrap_or, Ok, ap, sym, subst, ◌∙◌, refl, arith}
 use Rattle.std.specs.Option.{option_map}
 use Rattle.std.specs.Cmp.Lexicographic.{bytes_decides}

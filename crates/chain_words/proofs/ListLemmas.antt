@@ -1,4 +1,4 @@
---! Lists, read from the left.
+-- Lists, read from the left.
 use Rattle.std.proofs.Common.{◌≡◌, ℕ, ◌+◌, ◌<◌, List, ◌∷◌, length, get_or, drop, filter, Bool, ◌||◌, ◌&&◌, cond, Some, ap, sym, ◌∙◌}
 use Rattle.std.proofs.lemmas.List.{at_drop_more}
 use Rattle.std.specs.List.{find, list_any, list_all}

@@ -1,4 +1,4 @@
---! The names of the files that a chain reads and writes are those that its settings name.
+-- The names of the files that a chain reads and writes are those that its settings name.
 use Rattle.std.proofs.Common.{◌≡◌, ◌≤◌, List, [], ◌∷◌, length, map, filter, Bool, true, false, ◌&&◌, ◌||◌, cond, Option, Some, None, Ok, ap, sym, subst, ◌∙◌, refl, arith}
 use Rattle.std.specs.List.{list_any, find, cons_option}
 use Rattle.std.specs.Option.{option_map}

@@ -1,4 +1,4 @@
---! Numbers that digits write.
+-- Numbers that digits write.
 use Rattle.std.proofs.Common.{◌≡◌, ℕ, ◌+◌, ◌*◌, ◌-◌, ◌<◌, ◌≤◌, List, [], ◌∷◌, length, get_or, drop, refl, leb, true, false, ◌&&◌, cond, Some, None, arith}
 use Rattle.std.proofs.lemmas.List.{at_drop_more}
 use Rattle.std.proofs.lemmas.Bool.{lt-leb}

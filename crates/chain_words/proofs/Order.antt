@@ -1,4 +1,4 @@
---! The order of a step's options is free.
+-- The order of a step's options is free.
 use Rattle.std.proofs.Common.{◌≡◌, ◌≢◌, ℕ, ◌+◌, ◌≤◌, List, [], ◌∷◌, ◌++◌, length, map, Bool, true, false, ◌&&◌, ◌||◌, cond, leb, ltb, ◌==◌, Option, Some, None, is_some, Ok, ap, sym, subst, ◌∙◌, refl, arith, append-nil}
 use Rattle.std.specs.Cmp.Lexicographic.{bytes_decides}
 use Rattle.std.proofs.lemmas.List.{length-append}

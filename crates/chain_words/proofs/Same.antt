@@ -1,4 +1,4 @@
---! Settings that give each option the same values: whatever is read from the one is read from the other.
+-- Settings that give each option the same values: whatever is read from the one is read from the other.
 use Rattle.std.proofs.Common.{◌≡◌, ℕ, ◌+◌, ◌≤◌, List, [], ◌∷◌, ◌++◌, length, map, filter, Bool, true, false, not, ◌&&◌, ◌||◌, cond, Option, Some, None, is_some, option_and_then, unwrap_or, Ok, ap, sym, ◌∙◌, refl, arith, append_assoc}
 use Rattle.std.specs.List.{list_any, find}
 use Rattle.std.specs.Option.{option_map}

@@ -1,4 +1,4 @@
---! What the words ask for: the whole definition.
+-- What the words ask for: the whole definition. (Own.)
 use Rattle.std.specs.Prelude.{ℕ, List, [], ◌∷◌, length, nat_lt, Option, Some, None, Ok, if◌then◌else◌}
 use Rattle.chain_words.specs.Word.{Word}
 use Rattle.chain_words.specs.Number.{size_of}

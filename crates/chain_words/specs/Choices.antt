@@ -1,4 +1,4 @@
---! The words that an option's value may be, where it is no name.
+-- The words that an option's value may be, where it is no name. (Own, after the options of ROBOT.)
 use Rattle.std.specs.Prelude.{List, [], ◌∷◌, Bool, true, false, is_some, codes}
 use Rattle.chain_words.specs.Word.{Word, named, is_name}
 use Rattle.chain_words.specs.Table.{kind_of}

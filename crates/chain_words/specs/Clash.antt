@@ -1,4 +1,4 @@
---! Names of outputs that are taken: by a file that is read, or by an earlier output.
+-- Names of outputs that are taken: by a file that is read, or by an earlier output. (Own.)
 use Rattle.std.specs.Prelude.{◌≡◌, ℕ, List, [], ◌∷◌, ◌++◌, Bool, true, false, ◌&&◌, Option, Some, None, if◌then◌else◌}
 use Rattle.std.specs.List.{list_any}
 use Rattle.chain_words.specs.Word.{Word, same}

@@ -1,4 +1,4 @@
---! What holds of every list of words that is accepted.
+-- What holds of every list of words that is accepted. (Own.)
 use Rattle.std.specs.Prelude.{◌≡◌, ◌≢◌, ℕ, ◌≤◌, List, [], ◌∷◌, ◌++◌, Bool, true, false, Option, Some, None, length, filter, codes, Ok}
 use Rattle.std.specs.List.{All, list_any, filter_map, cons_option}
 use Rattle.std.specs.Option.{option_map}

@@ -1,4 +1,4 @@
---! The size of a generated ontology: a decimal number from 10 to 1000000 without leading zeros.
+-- The size of a generated ontology: a decimal number from 10 to 1000000 without leading zeros. (Own.)
 use Rattle.std.specs.Prelude.{ℕ, ◌+◌, ◌*◌, ◌-◌, [], ◌∷◌, Bool, false, ◌&&◌, ◌==◌, nat_lt, nat_le, Option, Some, None, option_and_then, if◌then◌else◌}
 use Rattle.std.specs.Char.{is_ascii_digit}
 use Rattle.std.specs.List.{list_all}

@@ -1,4 +1,4 @@
---! What is read from words: a value, or the bad word that comes first.
+-- What is read from words: a value, or the bad word that comes first. (Own.)
 use Rattle.std.specs.Prelude.{◌≡◌, ℕ, Result, Ok, Err}
 use Rattle.chain_words.specs.declared.fault.WordKind.{WordKind}
 use Rattle.chain_words.specs.declared.fault.WordFault.{WordFault}

@@ -1,5 +1,5 @@
---! The words from left to right: each one is an option of the step's command, the value of the option before
---! it, or the next command.
+-- The words from left to right: each one is an option of the step's command, the value of the option before it, or the
+-- next command. (Own.)
 use Rattle.std.specs.Prelude.{ℕ, ◌+◌, List, [], ◌∷◌, ◌++◌, length, Bool, true, false, ◌&&◌, nat_le, Option, Some, None, is_some, Ok, Err, if◌then◌else◌}
 use Rattle.chain_words.specs.Word.{Word, named}
 use Rattle.chain_words.specs.Table.{command_words, command_word, option_word, options}

@@ -1,4 +1,4 @@
---! A step as the words say it, what is tested where it ends, and what it means.
+-- A step as the words say it, what is tested where it ends, and what it means. (Own.)
 use Rattle.std.specs.Prelude.{ℕ, List, [], ◌∷◌, ◌++◌, Bool, true, false, ◌&&◌, not, Option, Some, None, is_some, unwrap_or, option_and_then, Ok, if◌then◌else◌, map, filter, codes, nat_eq}
 use Rattle.std.specs.List.{list_any, find, ends_with}
 use Rattle.std.specs.Option.{option_map}

@@ -1,4 +1,4 @@
---! The table of the command line.
+-- The table of the command line. (Own, after the commands and options of ROBOT.)
 use Rattle.std.specs.Prelude.{List, [], ◌∷◌, codes}
 use Rattle.chain_words.specs.Word.{Word}
 use Rattle.chain_words.specs.declared.table.CommandWord.{CommandWord}

@@ -1,4 +1,4 @@
---! A word of the command line is the list of its bytes.
+-- A word of the command line is the list of its bytes. (Own.)
 use Rattle.std.specs.Prelude.{ℕ, List, [], ◌∷◌, Bool, true, false, Option, nat_eq}
 use Rattle.std.specs.List.{find}
 use Rattle.std.specs.Cmp.Lexicographic.{pointwise}

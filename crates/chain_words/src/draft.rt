@@ -79,12 +79,7 @@ fn at_value(
 }
 
 /// The setting that this word gives to an option, whatever the draft.
-fn setting_at(
-    alloc: Global,
-    option: OptionWord,
-    at: u32,
-    word: &[u8],
-) -> Result<Setting, WordFault>
+fn setting_at(alloc: Global, option: OptionWord, at: u32, word: &[u8]) -> Result<Setting, WordFault>
     ensures setting { IfOk result (λ setting. (draft : Draft) → at_value draft option at word.now ≡ Ok (record draft { phrase = with_setting draft.phrase setting.option setting.at setting.value; asked = None })) }
     ensures bad_value { IfErr result (λ fault. (draft : Draft) → IsBadWord (at_value draft option at word.now) fault) }
 {

@@ -1,2 +1,3 @@
+pub mod Laws
 pub mod Ontology
 pub mod Origins

@@ -1,5 +1,5 @@
--- An ontology as a contract sees it: its name, and its axioms in the order in which they came, each once and
--- with its least origin.
+-- An ontology as a contract sees it: its name, and its axioms in the order in which they came, each once and with its
+-- least origin. (Own; an ontology as a set of axioms: OWL 2 Structural Specification and Functional-Style Syntax.)
 use Rattle.std.specs.Prelude.{ℕ, Bool, false, if◌then◌else◌, List, [], ◌∷◌, Option, Contains, map}
 use Rattle.std.specs.List.{IsDistinct}
 use Rattle.owl_ontology.specs.Origins.{lesser}

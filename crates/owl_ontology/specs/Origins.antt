@@ -1,4 +1,4 @@
--- Origins in their order.
+-- Origins in their order. (Own.)
 use Rattle.std.specs.Prelude.{◌==◌, Bool, ◌&&◌, ◌||◌, if◌then◌else◌, nat_lt}
 use Rattle.owl_ontology.specs.declared.origin.Origin.{Origin}
 
