@@ -1,5 +1,6 @@
 pub mod Accepted
 pub mod ListLemmas
+pub mod PhraseLemmas
 pub mod NumberLemmas
 pub mod ScanLemmas
 pub mod Names
