@@ -31,26 +31,28 @@ fn leaf_and_not(alloc: Global, text: &str) -> Result<Tree, NoMemory> {
     Ok(Tree::And(Items::from_vec(operands)))
 }
 
-#[test]
-fn copies_are_equal(rt: HostRuntime) -> Result<(), Fail> {
-    let alloc = rt.alloc();
-    let numbers = (
-        (1u8, 2u16, 3u128),
-        (4usize, -5i8, -6i16),
-        (-7i32, -8i64, (-9i128, -10isize)),
-    );
-    assert_eq!(rt; numbers.copy(alloc)?, numbers);
-    let pair = (bytes(alloc, "a b")?, 7u32);
-    assert_eq!(rt; pair.copy(alloc)?, pair);
-    let triple = (true, iri(alloc, "http://a.b/c")?, Some(9u64));
-    assert_eq!(rt; triple.copy(alloc)?, triple);
-    let boxed = Boxed::new(alloc, pair)?;
-    assert_eq!(rt; boxed.copy(alloc)?, boxed);
+/// Two texts, one of them empty.
+fn two_texts(alloc: Global) -> Result<Items<Bytes>, NoMemory> {
     let mut items = Vec::new(alloc);
     items.push(bytes(alloc, "x")?)?;
     items.push(bytes(alloc, "")?)?;
-    let items = Items::from_vec(items);
-    assert_eq!(rt; items.copy(alloc)?, items);
+    Ok(Items::from_vec(items))
+}
+
+/// Whether a copy equals the value.
+fn is_copied<T: Dup + PartialEq + Drop>(alloc: Global, value: T) -> Result<bool, NoMemory> {
+    let twin = value.copy(alloc)?;
+    Ok(twin == value)
+}
+
+#[test]
+fn copies_are_equal(rt: HostRuntime) -> Result<(), Fail> {
+    let alloc = rt.alloc();
+    assert!(rt; is_copied(alloc, ((1u8, 2u16, 3u32), (4u64, 5u128, 6usize)))?);
+    assert!(rt; is_copied(alloc, ((-1i8, -2i16, -3i32), (-4i64, -5i128, -6isize)))?);
+    assert!(rt; is_copied(alloc, (true, iri(alloc, "http://a.b/c")?, Some(9u64)))?);
+    assert!(rt; is_copied(alloc, Boxed::new(alloc, bytes(alloc, "a b")?)?)?);
+    assert!(rt; is_copied(alloc, two_texts(alloc)?)?);
     Ok(())
 }
 
