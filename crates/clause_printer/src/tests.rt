@@ -71,11 +71,20 @@ name|Text|a||||http://a.b/é#c=a "b" \~^{d}!=, ;x=2 => name: a {http://a.b/é#c=
 fn clauses_are_printed(rt: HostRuntime) -> Result<(), Fail> {
     for case in CLAUSES.lines() {
         let (fields, want) = case.split_once(" => ").ok_or("no arrow")?;
-        let clause = clause_of(rt.alloc(), fields)?.ok_or("no clause")?;
-        let line = clause_text(rt.alloc(), &clause)?;
+        let line = line_of(rt.alloc(), fields)?.ok_or("no clause")?;
         assert_eq!(rt; line.as_slice(), want.as_bytes(), "{case}");
     }
     Ok(())
+}
+
+/// The line that is printed of the clause of seven fields, if they are that.
+fn line_of(alloc: Global, fields: &str) -> Result<Option<Vec<u8>>, NoMemory> {
+    let Some(clause) = clause_of(alloc, fields)? else {
+        return Ok(None);
+    };
+    let line = clause_text(alloc, &clause);
+    drop(clause);
+    Ok(Some(line?))
 }
 
 /// The clause of seven fields, if they are that.
@@ -87,12 +96,11 @@ fn clause_of(alloc: Global, text: &str) -> Result<Option<Clause>, NoMemory> {
     let [tag, variant, first, second, third, xrefs, qualifiers] = fields.as_slice() else {
         return Ok(None);
     };
-    let xrefs = xrefs_of(alloc, xrefs)?;
+    let tag = bytes_of(alloc, tag)?;
+    let qualifiers = qualifiers_of(alloc, qualifiers)?;
     let Some(value) = value_of(alloc, variant, [first, second, third], xrefs)? else {
         return Ok(None);
     };
-    let tag = bytes_of(alloc, tag)?;
-    let qualifiers = qualifiers_of(alloc, qualifiers)?;
     Ok(Some(Clause {
         tag,
         value,
@@ -167,59 +175,84 @@ fn value_of(
     alloc: Global,
     variant: &str,
     parts: [&str; 3],
-    xrefs: Items<Xref>,
+    xrefs: &str,
 ) -> Result<Option<Value>, NoMemory> {
     let [first, second, third] = parts;
+    match variant {
+        "Bool" => Ok(Some(Value::Bool(first == "true"))),
+        "Def" => def_of(alloc, first, xrefs),
+        "Synonym" => synonym_of(alloc, first, scope_of(second), third, xrefs),
+        "Xref" => Ok(Some(Value::XrefValue(xref_of(alloc, xrefs)?))),
+        _ => plain_value_of(alloc, variant, first, second, third),
+    }
+}
+
+/// The value of this variant, if it is one that is made of texts and a scope alone.
+fn plain_value_of(
+    alloc: Global,
+    variant: &str,
+    first: &str,
+    second: &str,
+    third: &str,
+) -> Result<Option<Value>, NoMemory> {
     let one = bytes_of(alloc, first)?;
     let two = bytes_of(alloc, second)?;
-    let three = bytes_of(alloc, third)?;
-    Ok(match variant {
-        "Text" => Some(Value::Text(one)),
-        "Id" => Some(Value::Id(one)),
-        "Pair" => Some(Value::Pair(one, two)),
-        "Bool" => Some(Value::Bool(first == "true")),
-        "Def" => Some(Value::Def { text: one, xrefs }),
-        "Synonym" => synonym_of(one, scope_of(second), three, xrefs),
-        "Xref" => first_xref(xrefs),
-        "Literal" => Some(Value::Literal {
+    match variant {
+        "Text" => Ok(Some(Value::Text(one))),
+        "Id" => Ok(Some(Value::Id(one))),
+        "Pair" => Ok(Some(Value::Pair(one, two))),
+        "Literal" => Ok(Some(Value::Literal {
             relation: one,
             text: two,
-            datatype: three,
-        }),
-        "Link" => Some(Value::Link {
+            datatype: bytes_of(alloc, third)?,
+        })),
+        "Link" => Ok(Some(Value::Link {
             relation: one,
             target: two,
-        }),
-        "SubsetDef" => Some(Value::SubsetDef { id: one, text: two }),
-        "SynonymDef" => Some(Value::SynonymDef {
+        })),
+        "SubsetDef" => Ok(Some(Value::SubsetDef { id: one, text: two })),
+        "SynonymDef" => Ok(Some(Value::SynonymDef {
             id: one,
             text: two,
             scope: scope_of(third),
-        }),
-        "Raw" => Some(Value::Raw(one)),
-        _ => None,
-    })
+        })),
+        "Raw" => Ok(Some(Value::Raw(one))),
+        _ => Ok(None),
+    }
 }
 
-fn synonym_of(text: Bytes, scope: Option<Scope>, kind: Bytes, xrefs: Items<Xref>) -> Option<Value> {
-    let scope = scope?;
-    let kind = if kind.as_slice().is_empty() {
-        None
-    } else {
-        Some(kind)
+fn def_of(alloc: Global, text: &str, xrefs: &str) -> Result<Option<Value>, NoMemory> {
+    let text = bytes_of(alloc, text)?;
+    let xrefs = xrefs_of(alloc, xrefs)?;
+    Ok(Some(Value::Def { text, xrefs }))
+}
+
+fn synonym_of(
+    alloc: Global,
+    text: &str,
+    scope: Option<Scope>,
+    kind: &str,
+    xrefs: &str,
+) -> Result<Option<Value>, NoMemory> {
+    let Some(scope) = scope else {
+        return Ok(None);
     };
-    Some(Value::Synonym {
+    let text = bytes_of(alloc, text)?;
+    let kind = kind_of(alloc, kind)?;
+    let xrefs = xrefs_of(alloc, xrefs)?;
+    Ok(Some(Value::Synonym {
         text,
         scope,
         kind,
         xrefs,
-    })
+    }))
 }
 
-fn first_xref(xrefs: Items<Xref>) -> Option<Value> {
-    let mut xrefs = xrefs.into_vec();
-    let xref = xrefs.pop()?;
-    Some(Value::XrefValue(xref))
+fn kind_of(alloc: Global, text: &str) -> Result<Option<Bytes>, NoMemory> {
+    if text.is_empty() {
+        return Ok(None);
+    }
+    Ok(Some(bytes_of(alloc, text)?))
 }
 
 /// A clause that a line of a Term spells.

@@ -5,7 +5,6 @@ use Rattle.obo_tags.specs.declared.kind.FrameKind.{FrameKind}
 use Rattle.obo_clause.specs.declared.line.Line.{Line}
 use Rattle.obo_clause.specs.declared.line.LineFault.{LineFault}
 use Rattle.obo_clause.specs.declared.line.LineFault.TheVariants as fault
-use Rattle.obo_clause.specs.declared.line.SyntaxKind.{SyntaxKind}
 use Rattle.obo_clause.specs.Reading.{Answer}
 use Rattle.obo_clause.specs.ReadingLines.{answer_to}
 use Rattle.obo_clause.specs.Spelling.{Says}

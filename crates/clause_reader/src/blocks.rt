@@ -1,6 +1,5 @@
 //! What a line ends with: a block of qualifiers, as `{source="EX:1", is_inferred="true"}`, and a comment.
 ghost use Rattle.std.specs.Prelude.{◌≡◌, ◌&&◌, ◌||◌, IfOk, MatchOption, None, Some, is_some, length, suc};
-ghost use Rattle.std.specs.Option.{option_copied, option_map};
 ghost use Rattle.clause_reader.specs.Results.{FindsWith, Gives};
 ghost use Rattle.obo_clause.specs.Marks.{read_as};
 ghost use Rattle.obo_clause.specs.Reading as read;

@@ -2,7 +2,6 @@
 ghost use Rattle.std.specs.Prelude.{◌≡◌, ◌++◌, MatchResult, OnOk, IfOk, Ok, Err, length, suc};
 ghost use Rattle.std.specs.Option.{option_copied};
 ghost use Rattle.clause_reader.specs.Results.{GivesWith};
-ghost use Rattle.obo_clause.specs.Marks.{read_as};
 ghost use Rattle.obo_clause.specs.Reading as read;
 
 use crate::marks::{Class, behind_blanks, split_run, text_of, trim_end};

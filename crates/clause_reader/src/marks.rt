@@ -1,5 +1,5 @@
 //! The marks that the value of a clause is made of, and runs of them.
-ghost use Rattle.std.specs.Prelude.{◌≡◌, ◌+◌, ◌<◌, ◌≤◌, ◌∷◌, IfOk, codes, drop, length};
+ghost use Rattle.std.specs.Prelude.{◌≡◌, ◌+◌, ◌<◌, ◌≤◌, ◌∷◌, IfOk, drop, length};
 ghost use Rattle.std.specs.List.{prefix_len};
 ghost use Rattle.obo_clause.specs.Marks as spec;
 ghost use Rattle.clause_reader.specs.Classes.{in_class};

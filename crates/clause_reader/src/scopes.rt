@@ -1,7 +1,7 @@
 //! The words behind a quoted text: scopes, types and datatypes.
 ghost use Rattle.std.specs.Prelude.{◌≡◌, IfOk};
 ghost use Rattle.std.specs.Option.{option_copied};
-ghost use Rattle.clause_reader.specs.Results.{Gives, GivesWith};
+ghost use Rattle.clause_reader.specs.Results.{GivesWith};
 ghost use Rattle.obo_clause.specs.ReadingLines as read;
 
 use crate::bytes::is_word;
