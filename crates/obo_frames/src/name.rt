@@ -1,6 +1,6 @@
 //! The name of the ontology, as the header of a document gives it.
 ghost use Rattle.std.specs.Prelude.{◌≡◌, IfOk};
-ghost use Rattle.std.specs.Option.{option_copied, option_map};
+ghost use Rattle.std.specs.Option.{option_copied};
 ghost use Rattle.iri_map.specs.Ontology.{normalised};
 ghost use Rattle.obo_frames.specs.Groups as spec;
 
