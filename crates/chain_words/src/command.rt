@@ -122,9 +122,9 @@ impl Dup for Step {
 impl Dup for Chain {
     fn copy(&self, alloc: Global) -> Result<Chain, NoMemory> {
         let inputs = self.inputs.copy(alloc)?;
+        let steps = self.steps.copy(alloc)?;
         let catalog = self.catalog.copy(alloc)?;
         let first = self.first.copy(alloc)?;
-        let steps = self.steps.copy(alloc)?;
         Ok(Chain {
             inputs,
             catalog,

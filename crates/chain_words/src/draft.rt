@@ -1,4 +1,5 @@
-//! What the words read so far say, and what one more word adds.
+//! What the words read so far say, and what one more word adds. What a bad word makes useless is dropped by a call, so that
+//! a proof speaks of one call and not of each field.
 ghost use Rattle.std.specs.Prelude.{◌≡◌, ◌<◌, ◌^◌, ◌+◌, nat_le, Ok, Some, None, if◌then◌else◌, IfOk, IfErr};
 ghost use Rattle.chain_words.specs.Reading.{Answers, IsBadWord};
 ghost use Rattle.chain_words.specs.Scan.{at_option, at_value, with_setting, at_command, at_place, at_word, begun, turn, at_end, tested, command_of, rule_of, stands_first, most_commands};
@@ -210,7 +211,10 @@ fn tested(chain: Chain, settings: &[Setting]) -> Result<Command, WordFault>
 {
     match first_clash(settings) {
         None => Ok(Command::Run(chain)),
-        Some(fault) => Err(fault),
+        Some(fault) => {
+            drop(chain);
+            Err(fault)
+        }
     }
 }
 

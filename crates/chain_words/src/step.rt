@@ -177,6 +177,7 @@ pub fn ended(alloc: Global, chain: Chain, phrase: &Phrase) -> Result<Chain, Word
     ensures { Answers (ended chain phrase.now) result }
 {
     if lacks(phrase) {
+        drop(chain);
         return Err(WordFault::BadWord {
             index: phrase.at,
             kind: WordKind::MissingOption,

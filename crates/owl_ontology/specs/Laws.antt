@@ -1,7 +1,7 @@
 -- What one axiom more makes of an ontology. (Own.)
 use Rattle.std.specs.Prelude.{ℕ, ◌≡◌, List, [], ◌∷◌, ◌++◌, Some, slice_get}
 use Rattle.owl_axioms.specs.declared.body.Axiom.{Axiom}
-use Rattle.owl_ontology.specs.Ontology.{AreDifferent, Entry, IsHeld, add_entry, entry_of}
+use Rattle.owl_ontology.specs.Ontology.{Entry, IsHeld, add_entry, entry_of}
 use Rattle.owl_ontology.specs.Origins.{lesser}
 use Rattle.owl_ontology.specs.declared.origin.Origin.{Origin}
 
