@@ -79,23 +79,33 @@ fn bytes_and_iris_are_keys(rt: HostRuntime) -> Result<(), Fail> {
     Ok(())
 }
 
-#[test]
-fn a_folder_in_memory_fails_where_it_is_told(rt: HostRuntime) -> Result<(), Fail> {
-    let alloc = rt.alloc();
+/// A folder with one file `a`, that reads two bytes at a time and fails at one call.
+fn folder(alloc: Global, failing: u64) -> Result<MemFolder, NoMemory> {
     let mut files = Vec::new(alloc);
     files.push((bytes(alloc, "a")?, bytes(alloc, "12345")?))?;
-    let failing = Vec::from_slice(alloc, &[4, 5])?;
-    let mut folder = MemFolder::new(alloc, files, 2, failing);
+    let failing = Vec::from_slice(alloc, &[failing])?;
+    Ok(MemFolder::new(alloc, files, 2, failing))
+}
+
+#[test]
+fn a_folder_in_memory_reads_until_it_fails(rt: HostRuntime) -> Result<(), Fail> {
+    let mut folder = folder(rt.alloc(), 3)?;
     let mut buffer = [0u8; 3];
-    assert_eq!(rt; folder.open_file(b"b"), Opened::Missing);
-    assert_eq!(rt; folder.put(b"b", b"new"), Ok(()));
-    assert_eq!(rt; folder.open_file(b"a"), Opened::Ready);
-    assert_eq!(rt; folder.read(&mut buffer), Got::Bytes(2));
-    assert_eq!(rt; folder.read(&mut buffer), Got::Failed);
-    assert_eq!(rt; folder.put(b"a", b"lost"), Err(PutFault::Failed));
-    assert_eq!(rt; folder.put(b"b", b"newer"), Ok(()));
-    assert_eq!(rt; folder.held(b"a").unwrap_or(b"none"), b"12345".as_slice());
-    assert_eq!(rt; folder.held(b"b").unwrap_or(b"none"), b"newer".as_slice());
+    assert!(rt; folder.open_file(b"b") == Opened::Missing);
+    assert!(rt; folder.open_file(b"a") == Opened::Ready);
+    assert!(rt; folder.read(&mut buffer) == Got::Bytes(2));
+    assert!(rt; folder.read(&mut buffer) == Got::Failed);
+    Ok(())
+}
+
+#[test]
+fn a_folder_in_memory_keeps_what_is_put(rt: HostRuntime) -> Result<(), Fail> {
+    let mut folder = folder(rt.alloc(), 1)?;
+    assert!(rt; folder.put(b"b", b"new") == Ok(()));
+    assert!(rt; folder.put(b"a", b"lost") == Err(PutFault::Failed));
+    assert!(rt; folder.put(b"b", b"newer") == Ok(()));
+    assert!(rt; folder.held(b"a") == Some(b"12345".as_slice()));
+    assert!(rt; folder.held(b"b") == Some(b"newer".as_slice()));
     Ok(())
 }
 
@@ -103,10 +113,10 @@ fn a_folder_in_memory_fails_where_it_is_told(rt: HostRuntime) -> Result<(), Fail
 fn a_sink_in_memory_fails_where_it_is_told(rt: HostRuntime) -> Result<(), Fail> {
     let alloc = rt.alloc();
     let mut sink = MemSink::new(alloc, 4, Vec::from_slice(alloc, &[1])?)?;
-    assert_eq!(rt; sink.write_all(b"ab"), Ok(()));
-    assert_eq!(rt; sink.write_all(b""), Err(SinkFailed));
-    assert_eq!(rt; sink.write_all(b"cde"), Err(SinkFailed));
-    assert_eq!(rt; sink.write_all(b"cd"), Ok(()));
-    assert_eq!(rt; sink.bytes(), b"abcd".as_slice());
+    assert!(rt; sink.write_all(b"ab") == Ok(()));
+    assert!(rt; sink.write_all(b"") == Err(SinkFailed));
+    assert!(rt; sink.write_all(b"cde") == Err(SinkFailed));
+    assert!(rt; sink.write_all(b"cd") == Ok(()));
+    assert!(rt; sink.bytes() == b"abcd".as_slice());
     Ok(())
 }
