@@ -207,16 +207,16 @@ fn least_of_one(
 {
     let mut least = best;
     for operand in operands {
-        if is_one(groups.get(&operand.group)) {
+        if has_one(groups, &operand.group) {
             least = Some(lesser_line(least, operand.line));
         }
     }
     least
 }
 
-/// Whether the group has one expression alone.
-fn is_one(group: Option<&Summary>) -> bool
-    ensures { result ≡ is_one (option_copied group.entry) }
+/// Whether the group of this IRI has one expression alone.
+fn has_one(groups: &BTreeMap<Iri, Summary>, group: &Iri) -> bool
+    ensures { result ≡ is_one (get (slice_cmp nat_cmp) groups.now group.now) }
 {
-    matches!(group, Some(Summary::One(_)))
+    matches!(groups.get(group), Some(Summary::One(_)))
 }
