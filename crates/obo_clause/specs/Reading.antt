@@ -1,13 +1,10 @@
 -- How the parts of a clause are read, as functions from left to right: a reader goes by these, and they are proved to find
 -- what the grammar allows and nothing else. A run is the longest front of marks of its class. (Own.)
-use Rattle.std.specs.Prelude.{◌≡◌, ℕ, zero, suc, ◌==◌, ◌&&◌, ◌||◌, Bool, true, not, if◌then◌else◌, List, [], ◌∷◌, ◌++◌, Option, None, Some, Result, Ok, Err, drop, is_some, length, take}
-use Rattle.std.specs.Borrow.{Bor}
+use Rattle.std.specs.Prelude.{ℕ, zero, suc, ◌==◌, ◌&&◌, ◌||◌, Bool, true, not, if◌then◌else◌, List, [], ◌∷◌, ◌++◌, Option, None, Some, Result, Ok, Err, drop, is_some, length, take}
 use Rattle.std.specs.List.{prefix_len}
 use Rattle.std.specs.Option.{option_and_then, option_map}
 use Rattle.obo_clause.specs.declared.clause.Qualifier.{Qualifier}
 use Rattle.obo_clause.specs.declared.clause.Xref.{Xref}
-use Rattle.obo_clause.specs.declared.line.LineFault.{LineFault}
-use Rattle.obo_clause.specs.declared.line.LineFault.TheVariants as fault
 use Rattle.obo_clause.specs.declared.line.SyntaxKind.{SyntaxKind}
 use Rattle.obo_clause.specs.declared.line.SyntaxKind.TheVariants as syntax
 use Rattle.obo_clause.specs.Marks.{Mark, read_as}

@@ -1,9 +1,7 @@
 -- How values and whole lines are read, as functions: a reader goes by these, and they are proved to answer what the line
 -- says, or what is wrong with it. (Own.)
-use Rattle.std.specs.Prelude.{◌≡◌, ℕ, ◌==◌, ◌&&◌, Bool, true, false, not, if◌then◌else◌, List, [], ◌∷◌, Option, None, Some, Ok, Err, codes, drop, length, nat_eq}
-use Rattle.std.specs.Borrow.{Bor}
+use Rattle.std.specs.Prelude.{ℕ, ◌==◌, ◌&&◌, Bool, true, false, not, if◌then◌else◌, List, [], ◌∷◌, Option, None, Some, Ok, Err, codes, drop, length, nat_eq}
 use Rattle.std.specs.List.{list_all, starts_with}
-use Rattle.std.specs.Option.{option_map}
 use Rattle.std.specs.Str.{bytes_eq}
 use Rattle.obo_lexer.specs.Tokens.{is_blank}
 use Rattle.obo_tags.specs.declared.kind.FrameKind.{FrameKind}
