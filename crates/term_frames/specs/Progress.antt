@@ -1,6 +1,6 @@
 -- How far the lines of a file were read: what the lines before a place amount to. Only private functions speak of it.
 -- (Own.)
-use Rattle.std.specs.Prelude.{◌≡◌, ◌↔◌, ℕ, ◌==◌, ◌&&◌, ◌||◌, Bool, not, true, List, [], ◌∷◌, Option, Some, is_some, length, map}
+use Rattle.std.specs.Prelude.{◌≡◌, ◌↔◌, ℕ, ◌==◌, ◌&&◌, ◌||◌, Bool, not, true, List, [], ◌∷◌, Option, is_some, length, map}
 use Rattle.std.specs.List.{filter_map, list_all}
 use Rattle.iri_map.specs.Id.{is_canonical_id}
 use Rattle.owl_ontology.specs.Ontology.{Entry, IsHeld}
