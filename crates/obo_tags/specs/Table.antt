@@ -1,5 +1,5 @@
 -- The tags of a frame, in the order in which they are printed, and what value each one has
--- (OBO Flat File Format 1.4, the header, the stanzas and their tags).
+-- (OBO Flat File Format 1.4, the header, the frames and their tags).
 use Rattle.std.specs.Prelude.{ℕ, Bool, ◌||◌, List, [], ◌∷◌, ◌++◌, None, Option, Some, codes, is_some, nat_eq, position, if◌then◌else◌}
 use Rattle.std.specs.List.{list_any, starts_with}
 use Rattle.std.specs.Str.{bytes_eq}

@@ -3,7 +3,7 @@ use Rattle.std.specs.Prelude.{◌≡◌, ℕ, List, Option, Some, None, Result, 
 use Rattle.rel_io.specs.Count.{Rose}
 use Rattle.rel_io.specs.FolderState.{FolderState}
 use Rattle.release_chain.specs.Release.{EndsAs, OfRun, ReadFaultCaused, WriteFaultCaused, WrotePrefix}
-use Rattle.release_chain.specs.Run.{byte_limit, run}
+use Rattle.release_chain.specs.Run.{byte_limit}
 use Rattle.release_chain.specs.Words.{Word, chain}
 use Rattle.release_chain.specs.declared.fault.Fault.{Fault}
 use Rattle.release_chain.specs.declared.fault.Fault.TheVariants.{BadWord, MissingInput, TooManyBytes, NotUtf8, LineTooLong, Syntax, NoId, ShortGroup, LineNotBuilt, ReadFault, WriteFault, NoMemory}
