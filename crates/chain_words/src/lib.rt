@@ -21,6 +21,3 @@ pub use command::{Chain, Command, Format, Method, Output, Step};
 pub use fault::{WordFault, WordKind};
 pub use laws::{formats_follow_names, merge_is_first, options_change_places, outputs_stand_apart};
 pub use read::read_words;
-
-#[cfg(test)]
-mod tests;

@@ -3,8 +3,6 @@
 
 mod laws;
 mod printer;
-#[cfg(test)]
-mod tests;
 
 pub use laws::{printed_line_spells_again, spelled_clauses_fit};
 pub use printer::print_clause;

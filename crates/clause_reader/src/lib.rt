@@ -9,8 +9,6 @@ mod marks;
 mod reader;
 mod runs;
 mod scopes;
-#[cfg(test)]
-mod tests;
 mod values;
 
 pub use reader::read_line;

@@ -12,8 +12,6 @@ mod laws;
 mod ontology;
 mod readable;
 mod split;
-#[cfg(test)]
-mod tests;
 
 pub use candidate::id_of;
 pub use id::{iri_of, is_canonical_id};

@@ -20,6 +20,3 @@ pub use fault::DocFault;
 pub use laws::{file_is_document_or_fault, file_is_told, first_fault_is_least, lines_are_placed};
 pub use placed::Placed;
 pub use read::read_document;
-
-#[cfg(test)]
-mod tests;

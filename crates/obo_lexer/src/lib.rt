@@ -6,8 +6,6 @@
 mod feeder;
 mod laws;
 mod line;
-#[cfg(test)]
-mod tests;
 mod token;
 
 pub use feeder::LineFeeder;

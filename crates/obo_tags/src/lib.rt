@@ -5,8 +5,6 @@
 mod kind;
 mod table;
 mod tag;
-#[cfg(test)]
-mod tests;
 
 pub use kind::{FrameKind, ValueShape};
 pub use tag::{Tag, rank, shape, tag_of};

@@ -8,6 +8,3 @@ mod origin;
 pub use laws::adding_keeps_the_lesser_origin;
 pub use ontology::Ontology;
 pub use origin::Origin;
-
-#[cfg(test)]
-mod tests;

@@ -13,8 +13,6 @@ mod mem_folder;
 mod mem_sink;
 mod memory;
 mod sink;
-#[cfg(test)]
-mod tests;
 
 pub use boxed::Boxed;
 pub use bytes::Bytes;

@@ -2,7 +2,7 @@ use Rattle.std.proofs.Common.{◌≡◌, true, subst, sym, ◌∙◌}
 use Rattle.owl_axioms.specs.Proper.{are_proper_sides}
 use Rattle.owl_axioms.specs.declared.name.Kind.TheVariants as kind
 use Rattle.owl_axioms.proofs.ProperAxioms.{IsProper-declaration, are_proper_sides-none}
-use Rattle.owl_ontology.proofs.tests.plain.Goals as goal
+use Rattle.worked_examples.proofs.tests.ontologies.plain.Goals as goal
 
 pub returns : goal.returns
 returns c = IsProper-declaration (record { kind = kind.Class; iri = c.in_ok-iri.iri }) c.from_vec.result c.in_ok-iri.ensures

@@ -1,5 +1,5 @@
 use Rattle.std.proofs.Common.{◌≡◌, ◌+◌, false, length}
-use Rattle.obo_lexer.proofs.tests.lines_in_pieces.Given as goal
+use Rattle.worked_examples.proofs.tests.lines.lines_in_pieces.Given as goal
 
 abbrev pub invariant-loop-left : goal.invariant-loop-left
 invariant-loop-left l =

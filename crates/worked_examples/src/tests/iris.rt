@@ -1,5 +1,5 @@
 //! Tables of ids, IRIs and names, worked out by hand from the rules.
-use super::*;
+use iri_map::{id_of, iri_of, name_or_temp, ontology_iri, ontology_value};
 use rel_io::{Bytes, Iri, NoMemory};
 use std::alloc::Global;
 use std::test::Fail;

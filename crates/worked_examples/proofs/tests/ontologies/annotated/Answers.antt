@@ -4,7 +4,7 @@ use Rattle.owl_axioms.specs.declared.annotation.NoteValue.TheVariants as note
 use Rattle.owl_axioms.specs.declared.annotation.Side.{Side}
 use Rattle.owl_axioms.specs.declared.name.Kind.TheVariants as kind
 use Rattle.owl_axioms.proofs.ProperAxioms.{IsProper-declaration, are_proper_sides-text}
-use Rattle.owl_ontology.proofs.tests.annotated.Goals as goal
+use Rattle.worked_examples.proofs.tests.ontologies.annotated.Goals as goal
 
 pub returns : goal.returns
 returns c =

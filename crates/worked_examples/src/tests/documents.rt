@@ -1,7 +1,8 @@
 //! Documents of small files, with answers worked out by hand from the rules.
 ghost use Rattle.std.specs.Prelude.{◌^◌, ◌<◌, length};
 
-use crate::{DocFault, Document, Placed, read_document};
+use crate::parts_of;
+use obo_frames::{DocFault, Document, Placed, read_document};
 use obo_tags::FrameKind;
 use rel_io::{Dup, NoMemory};
 use std::alloc::Global;
@@ -12,8 +13,8 @@ const LIMIT: u32 = 60;
 
 /// A case a line: a file, with `|` for an LF and `~` for the byte FF, and what it is: its fault, or its placed clauses,
 /// each as the kind and the id of its frame, its line, its tag and the number of its qualifiers.
-const FILES: &str = " =>
-|| ! nothing| =>
+const FILES: &str = " => nothing
+|| ! nothing| => nothing
 format-version: 1.2|ontology: ex||[Term]|id: EX:2|name: wheel|is_a part => Syntax 7 NoColon
 format-version: 1.2|ontology: ex|name: x|name|[Term]|id: EX:2|is_a part => Syntax 4 NoColon
 format-version: 1.2|ontology: ex||[Term]|id: EX:2|name: wheel|is_a EX:0000001 => Syntax 7 BadTag
@@ -99,7 +100,9 @@ fn kind_name(kind: FrameKind) -> &'static str {
 
 /// A placed clause as the table has it.
 fn show_placed(alloc: Global, text: &mut Vec<u8>, one: &Placed) -> Result<(), NoMemory> {
-    text.push(b' ')?;
+    if !text.is_empty() {
+        text.push(b' ')?;
+    }
     text.extend_from_slice(kind_name(one.frame).as_bytes())?;
     text.push(b' ')?;
     if one.id.as_slice().is_empty() {
@@ -116,12 +119,12 @@ fn show_placed(alloc: Global, text: &mut Vec<u8>, one: &Placed) -> Result<(), No
 /// A fault as the table has it.
 fn show_fault(alloc: Global, text: &mut Vec<u8>, fault: DocFault) -> Result<(), NoMemory> {
     let shown = match fault {
-        DocFault::NotUtf8 { line } => format!(in alloc; " NotUtf8 {line}"),
-        DocFault::LineTooLong { line } => format!(in alloc; " LineTooLong {line}"),
-        DocFault::Syntax { line, kind } => format!(in alloc; " Syntax {line} {kind:?}"),
-        DocFault::NoId { line } => format!(in alloc; " NoId {line}"),
-        DocFault::ShortGroup { line } => format!(in alloc; " ShortGroup {line}"),
-        DocFault::NoMemory => format!(in alloc; " no memory"),
+        DocFault::NotUtf8 { line } => format!(in alloc; "NotUtf8 {line}"),
+        DocFault::LineTooLong { line } => format!(in alloc; "LineTooLong {line}"),
+        DocFault::Syntax { line, kind } => format!(in alloc; "Syntax {line} {kind:?}"),
+        DocFault::NoId { line } => format!(in alloc; "NoId {line}"),
+        DocFault::ShortGroup { line } => format!(in alloc; "ShortGroup {line}"),
+        DocFault::NoMemory => format!(in alloc; "no memory"),
     }?;
     text.extend_from_slice(shown.as_bytes())?;
     Ok(())
@@ -134,6 +137,9 @@ fn shown(alloc: Global, read: &Result<Document, DocFault>) -> Result<Vec<u8>, No
         Ok(document) => {
             for at in 0..document.len() {
                 show_placed(alloc, &mut text, document.get(at))?;
+            }
+            if text.is_empty() {
+                text.extend_from_slice(b"nothing")?;
             }
         }
         Err(fault) => show_fault(alloc, &mut text, *fault)?,
@@ -155,7 +161,7 @@ fn told(alloc: Global, file: &[u8]) -> Result<Vec<u8>, NoMemory>
 fn files_are_documents_or_faults(rt: HostRuntime) -> Result<(), Fail> {
     let alloc = rt.alloc();
     for case in FILES.lines() {
-        let (file, want) = case.split_once(" =>").ok_or("no arrow")?;
+        let (file, want) = parts_of(case).ok_or("no arrow")?;
         let file = file_of(alloc, file)?;
         assert!(rt; file.len() < 1000);
         let text = told(alloc, file.as_slice())?;

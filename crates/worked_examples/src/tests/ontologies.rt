@@ -2,8 +2,9 @@
 ghost use Rattle.std.specs.Prelude.{IfOk, IsTrue};
 ghost use Rattle.owl_axioms.specs.Proper.{IsProper, is_clean_iri};
 
-use crate::{Ontology, Origin};
+use super::is_copied;
 use owl_axioms::{Axiom, Body, ClassExpr, Kind, Name, NoteValue, Side};
+use owl_ontology::{Ontology, Origin};
 use rel_io::{Boxed, Bytes, Dup, Iri, Items, NoMemory};
 use std::alloc::Global;
 use std::test::Fail;
@@ -228,19 +229,13 @@ fn sides(alloc: Global, number: u8) -> Result<Items<Side>, NoMemory> {
     Ok(Items::from_vec(sides))
 }
 
-/// Whether a copy is equal.
-fn is_copied<T: Dup + Drop + PartialEq>(alloc: Global, value: T) -> Result<bool, NoMemory> {
-    let twin = value.copy(alloc)?;
-    Ok(twin == value)
-}
-
 #[test]
 fn a_copy_is_equal(rt: HostRuntime) -> Result<(), Fail> {
     let alloc = rt.alloc();
     for number in 0..31 {
         let sides = sides(alloc, number)?;
         let body = body(alloc, number)?;
-        assert!(rt; is_copied(alloc, Axiom { body, sides })?, "{number}");
+        assert!(rt; is_copied(alloc, &Axiom { body, sides })?, "{number}");
     }
     Ok(())
 }

@@ -1,8 +1,10 @@
 //! Lines with what they say, or what is wrong with them, worked out by hand.
-use crate::read_line;
+use super::is_copied;
+use crate::parts_of;
+use clause_reader::read_line;
 use obo_clause::{Clause, Line, LineFault, Qualifier, Scope, Value, Xref};
 use obo_tags::FrameKind;
-use rel_io::{Bytes, Dup, NoMemory};
+use rel_io::{Bytes, NoMemory};
 use std::alloc::Global;
 use std::test::Fail;
 
@@ -320,7 +322,7 @@ T- is_a: A {|k=v, => Trailing
 #[test]
 fn lines_say_what_they_say(rt: HostRuntime) -> Result<(), Fail> {
     for case in LINES.lines() {
-        let (line, want) = case.split_once(" => ").ok_or("no arrow")?;
+        let (line, want) = parts_of(case).ok_or("no arrow")?;
         assert!(rt; is_as_told(rt.alloc(), line, want)?, "{case}");
     }
     Ok(())
@@ -384,14 +386,11 @@ fn is_shown_as(
     want: &[u8],
 ) -> Result<bool, NoMemory> {
     let shown = show(alloc, answer)?;
-    Ok(shown.as_slice() == want && is_copied(alloc, answer)?)
-}
-
-fn is_copied(alloc: Global, answer: &Result<Line, LineFault>) -> Result<bool, NoMemory> {
-    match answer {
-        Ok(line) => Ok(line.copy(alloc)? == *line),
-        Err(fault) => Ok(fault.copy(alloc)? == *fault),
-    }
+    let is_twin = match answer {
+        Ok(line) => is_copied(alloc, line)?,
+        Err(fault) => is_copied(alloc, fault)?,
+    };
+    Ok(is_twin && shown.as_slice() == want)
 }
 
 /// An answer as a text: the tag, the shape and its parts in `<>`, xrefs in `[]`, qualifiers in `{}`; or the fault.

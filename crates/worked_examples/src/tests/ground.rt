@@ -1,19 +1,11 @@
-//! Copies, keys, a type that leads back to itself, and the outside in memory, each once.
-use crate::{
-    Boxed, Bytes, Dup, Folder, Got, Iri, Items, MemFolder, MemSink, NoMemory, Opened, PutFault,
-    Sink, SinkFailed,
+//! Copies of the types of the ground, and the outside in memory, each once.
+use super::is_copied;
+use rel_io::{
+    Boxed, Bytes, Folder, Got, Iri, Items, MemFolder, MemSink, NoMemory, Opened, PutFault, Sink,
+    SinkFailed,
 };
 use std::alloc::Global;
-use std::collections::{BTreeMap, HashSet};
 use std::test::Fail;
-
-/// A tree of lists and boxes, as class expressions are.
-#[derive(Debug, PartialEq, Eq, Hash, Drop)]
-enum Tree {
-    Leaf(Bytes),
-    Not(Boxed<Tree>),
-    And(Items<Tree>),
-}
 
 fn bytes(alloc: Global, text: &str) -> Result<Bytes, NoMemory> {
     Bytes::from_slice(alloc, text.as_bytes())
@@ -21,14 +13,6 @@ fn bytes(alloc: Global, text: &str) -> Result<Bytes, NoMemory> {
 
 fn iri(alloc: Global, text: &str) -> Result<Iri, NoMemory> {
     Iri::from_slice(alloc, text.as_bytes())
-}
-
-/// And(leaf, Not(leaf))
-fn leaf_and_not(alloc: Global, text: &str) -> Result<Tree, NoMemory> {
-    let mut operands = Vec::new(alloc);
-    operands.push(Tree::Leaf(bytes(alloc, text)?))?;
-    operands.push(Tree::Not(Boxed::new(alloc, Tree::Leaf(bytes(alloc, text)?))?))?;
-    Ok(Tree::And(Items::from_vec(operands)))
 }
 
 /// Two texts, one of them empty.
@@ -39,43 +23,14 @@ fn two_texts(alloc: Global) -> Result<Items<Bytes>, NoMemory> {
     Ok(Items::from_vec(items))
 }
 
-/// Whether a copy equals the value.
-fn is_copied<T: Dup + PartialEq + Drop>(alloc: Global, value: T) -> Result<bool, NoMemory> {
-    let twin = value.copy(alloc)?;
-    Ok(twin == value)
-}
-
 #[test]
 fn copies_are_equal(rt: HostRuntime) -> Result<(), Fail> {
     let alloc = rt.alloc();
-    assert!(rt; is_copied(alloc, ((1u8, 2u16, 3u32), (4u64, 5u128, 6usize)))?);
-    assert!(rt; is_copied(alloc, ((-1i8, -2i16, -3i32), (-4i64, -5i128, -6isize)))?);
-    assert!(rt; is_copied(alloc, (true, iri(alloc, "http://a.b/c")?, Some(9u64)))?);
-    assert!(rt; is_copied(alloc, Boxed::new(alloc, bytes(alloc, "a b")?)?)?);
-    assert!(rt; is_copied(alloc, two_texts(alloc)?)?);
-    Ok(())
-}
-
-#[test]
-fn trees_compare_by_value(rt: HostRuntime) -> Result<(), Fail> {
-    let alloc = rt.alloc();
-    assert!(rt; leaf_and_not(alloc, "x")? == leaf_and_not(alloc, "x")?);
-    assert!(rt; leaf_and_not(alloc, "x")? != leaf_and_not(alloc, "y")?);
-    Ok(())
-}
-
-#[test]
-fn bytes_and_iris_are_keys(rt: HostRuntime) -> Result<(), Fail> {
-    let alloc = rt.alloc();
-    let mut sorted = BTreeMap::new(alloc);
-    for text in ["b", "", "a!", "a"] {
-        sorted.insert(bytes(alloc, text)?, text.len())?;
-    }
-    let lengths: Vec<usize> = sorted.values().copied().collect(alloc)?;
-    assert_eq!(rt; lengths.as_slice(), [0, 1, 2, 1].as_slice());
-    let mut seen = HashSet::new(alloc);
-    assert!(rt; seen.insert(iri(alloc, "http://a.b/c")?)?);
-    assert!(rt; !seen.insert(iri(alloc, "http://a.b/c")?)?);
+    assert!(rt; is_copied(alloc, &((1u8, 2u16, 3u32), (4u64, 5u128, 6usize)))?);
+    assert!(rt; is_copied(alloc, &((-1i8, -2i16, -3i32), (-4i64, -5i128, -6isize)))?);
+    assert!(rt; is_copied(alloc, &(true, iri(alloc, "http://a.b/c")?, Some(9u64)))?);
+    assert!(rt; is_copied(alloc, &Boxed::new(alloc, bytes(alloc, "a b")?)?)?);
+    assert!(rt; is_copied(alloc, &two_texts(alloc)?)?);
     Ok(())
 }
 

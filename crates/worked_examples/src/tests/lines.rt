@@ -1,7 +1,7 @@
 //! Lines and tokens on small texts, with answers worked out by hand from the rules.
 ghost use Rattle.std.specs.Prelude.{◌≡◌, ◌^◌, ◌<◌, IfOk, length};
 
-use crate::{LineBody, LineFeeder, LineItem, Token, TokenKind, tokens};
+use obo_lexer::{LineBody, LineFeeder, LineItem, Token, TokenKind, tokens};
 use rel_io::{Bytes, Dup, NoMemory};
 use std::alloc::Global;
 use std::test::Fail;
