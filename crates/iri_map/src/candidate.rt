@@ -1,6 +1,6 @@
 //! The id that an IRI is written by.
-ghost use Rattle.std.specs.Prelude.{◌≡◌, ◌↔◌, IfOk, IfSome, IsNone, IsTrue};
-ghost use Rattle.std.specs.List.{find};
+ghost use Rattle.std.specs.Prelude.{◌≡◌, ◌↔◌, ◌∷◌, [], IfOk, IfSome, IsNone, IsTrue, Some};
+ghost use Rattle.std.specs.List.{filter_map, find};
 ghost use Rattle.std.specs.Option.{option_to_list};
 ghost use Rattle.iri_map.specs.Candidate as spec;
 ghost use Rattle.iri_map.specs.Id.{iri_of};
@@ -16,27 +16,52 @@ use std::alloc::Global;
 /// The id that an IRI is written by in an ontology of this name: of the four forms, read backwards in the
 /// order canonical, prefixed, plain, URL, the first that an OBO line can hold (not empty, UTF-8 and without a
 /// carriage return) and whose IRI is this one. `None` exactly where no id that a line can hold has this IRI.
-#[tactic(auto, unfolding(crate::specs::Candidate::id_of, crate::specs::Candidate::candidates))]
 pub fn id_of(alloc: Global, iri: &Iri, ontology: &Bytes) -> Result<Option<Bytes>, NoMemory>
     ensures exact { IfOk result (λ id. id ≡ spec.id_of iri.now ontology.now) }
     ensures missing { IfOk result (λ id. IsNone id ↔ spec.HasNoId iri.now ontology.now) }
     ensures readable { IfOk result (λ found. IfSome found (λ id. IsTrue (is_readable id))) }
     ensures names { IfOk result (λ found. IfSome found (λ id. iri_of id ontology.now ≡ iri.now)) }
 {
+    first_fitting(alloc, iri, ontology)
+}
+
+/// The first of the four candidates that fits.
+#[tactic(auto, unfolding(crate::specs::Candidate::id_of, crate::specs::Candidate::candidates))]
+fn first_fitting(alloc: Global, iri: &Iri, ontology: &Bytes) -> Result<Option<Bytes>, NoMemory>
+    ensures { IfOk result (λ id. id ≡ spec.id_of iri.now ontology.now) }
+{
     let canonical = canonical_candidate(alloc, iri.as_slice())?;
-    if let Some(id) = fitting(alloc, canonical, iri, ontology)? {
-        return Ok(Some(id));
+    match fitting(alloc, canonical, iri, ontology)? {
+        Some(id) => Ok(Some(id)),
+        None => behind_canonical(alloc, iri, ontology),
     }
+}
+
+/// The first that fits of the candidates behind the canonical one.
+fn behind_canonical(alloc: Global, iri: &Iri, ontology: &Bytes) -> Result<Option<Bytes>, NoMemory>
+    ensures { IfOk result (λ id. id ≡ find (spec.names_iri iri.now ontology.now) (filter_map (λ candidate. candidate)
+        (spec.prefixed_candidate iri.now ∷ spec.plain_candidate iri.now ontology.now ∷ Some iri.now ∷ []))) }
+{
     let prefixed = prefixed_candidate(alloc, iri.as_slice())?;
-    if let Some(id) = fitting(alloc, prefixed, iri, ontology)? {
-        return Ok(Some(id));
+    match fitting(alloc, prefixed, iri, ontology)? {
+        Some(id) => Ok(Some(id)),
+        None => plain_or_url(alloc, iri, ontology),
     }
+}
+
+/// The first that fits of the last two candidates.
+fn plain_or_url(alloc: Global, iri: &Iri, ontology: &Bytes) -> Result<Option<Bytes>, NoMemory>
+    ensures { IfOk result (λ id. id ≡ find (spec.names_iri iri.now ontology.now) (filter_map (λ candidate. candidate)
+        (spec.plain_candidate iri.now ontology.now ∷ Some iri.now ∷ []))) }
+{
     let plain = plain_candidate(alloc, iri.as_slice(), ontology.as_slice())?;
-    if let Some(id) = fitting(alloc, plain, iri, ontology)? {
-        return Ok(Some(id));
+    match fitting(alloc, plain, iri, ontology)? {
+        Some(id) => Ok(Some(id)),
+        None => {
+            let url = Bytes::from_slice(alloc, iri.as_slice())?;
+            fitting(alloc, Some(url), iri, ontology)
+        }
     }
-    let url = Bytes::from_slice(alloc, iri.as_slice())?;
-    fitting(alloc, Some(url), iri, ontology)
 }
 
 /// The candidate, where it is readable and names this IRI.

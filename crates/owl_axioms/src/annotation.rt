@@ -3,7 +3,7 @@ use rel_io::{Bytes, Dup, Iri, NoMemory};
 use std::alloc::Global;
 
 /// The value of an annotation.
-#[derive(Debug, PartialEq, Eq, Hash, Drop)]
+#[derive(PartialEq, Eq, Hash, Drop)]
 pub enum NoteValue {
     /// A plain text.
     Text(Bytes),
@@ -14,7 +14,7 @@ pub enum NoteValue {
 }
 
 /// An annotation of an axiom, itself annotated with a label where it has one.
-#[derive(Debug, PartialEq, Eq, Hash, Drop)]
+#[derive(PartialEq, Eq, Hash, Drop)]
 pub struct Side {
     /// The annotation property.
     pub property: Iri,

@@ -6,7 +6,7 @@ use rel_io::{Dup, Iri, Items, NoMemory};
 use std::alloc::Global;
 
 /// What an axiom says, without its annotations.
-#[derive(Debug, PartialEq, Eq, Hash, Drop)]
+#[derive(PartialEq, Eq, Hash, Drop)]
 pub enum Body {
     /// The first is a subclass of the second.
     Sub(ClassExpr, ClassExpr),
@@ -53,7 +53,7 @@ pub enum Body {
 }
 
 /// An axiom: what it says, and its annotations. Two axioms are equal where both are.
-#[derive(Debug, PartialEq, Eq, Hash, Drop)]
+#[derive(PartialEq, Eq, Hash, Drop)]
 pub struct Axiom {
     /// What it says.
     pub body: Body,
@@ -61,42 +61,47 @@ pub struct Axiom {
     pub sides: Items<Side>,
 }
 
-/// A copy of a variant of `Body` with two or three fields.
-macro_rules! twin {
-    ($alloc:ident, $variant:ident, $first:ident, $second:ident) => {{
-        let (first, second) = both($alloc, $first, $second)?;
-        Ok(Body::$variant(first, second))
-    }};
-    ($alloc:ident, $variant:ident, $first:ident, $second:ident, $third:ident) => {{
-        let (first, second, third) = all_three($alloc, $first, $second, $third)?;
-        Ok(Body::$variant(first, second, third))
-    }};
-}
-
 impl Dup for Body {
     fn copy(&self, alloc: Global) -> Result<Body, NoMemory> {
         match self {
-            Body::Sub(first, second) => twin!(alloc, Sub, first, second),
-            Body::Equiv(first, second) => twin!(alloc, Equiv, first, second),
-            Body::Disjoint(first, second) => twin!(alloc, Disjoint, first, second),
-            Body::SubRole(first, second) => twin!(alloc, SubRole, first, second),
-            Body::Chain(first, second, third) => twin!(alloc, Chain, first, second, third),
-            Body::EquivRoles(first, second) => twin!(alloc, EquivRoles, first, second),
-            Body::DisjointRoles(first, second) => twin!(alloc, DisjointRoles, first, second),
-            Body::Inverse(first, second) => twin!(alloc, Inverse, first, second),
-            Body::Transitive(role) => Ok(Body::Transitive(role.copy(alloc)?)),
-            Body::Reflexive(role) => Ok(Body::Reflexive(role.copy(alloc)?)),
-            Body::Symmetric(role) => Ok(Body::Symmetric(role.copy(alloc)?)),
-            Body::Asymmetric(role) => Ok(Body::Asymmetric(role.copy(alloc)?)),
-            Body::Functional(role) => Ok(Body::Functional(role.copy(alloc)?)),
-            Body::InverseFunctional(role) => Ok(Body::InverseFunctional(role.copy(alloc)?)),
-            Body::Domain(role, class) => twin!(alloc, Domain, role, class),
-            Body::Range(role, class) => twin!(alloc, Range, role, class),
-            Body::ClassAssertion(class, name) => twin!(alloc, ClassAssertion, class, name),
-            Body::RoleAssertion(role, from, to) => twin!(alloc, RoleAssertion, role, from, to),
-            Body::Declaration(name) => Ok(Body::Declaration(name.copy(alloc)?)),
-            Body::Note(subject, property, value) => twin!(alloc, Note, subject, property, value),
-            Body::OntologyNote(property, value) => twin!(alloc, OntologyNote, property, value),
+            Body::Sub(first, second) => of_two(alloc, first, second, Body::Sub),
+            Body::Equiv(first, second) => of_two(alloc, first, second, Body::Equiv),
+            Body::Disjoint(first, second) => of_two(alloc, first, second, Body::Disjoint),
+            Body::SubRole(first, second) => of_two(alloc, first, second, Body::SubRole),
+            Body::Chain(first, second, third) => of_three(alloc, first, second, third, Body::Chain),
+            Body::EquivRoles(first, second) => of_two(alloc, first, second, Body::EquivRoles),
+            Body::DisjointRoles(first, second) => of_two(alloc, first, second, Body::DisjointRoles),
+            Body::Inverse(first, second) => of_two(alloc, first, second, Body::Inverse),
+            Body::Transitive(role) => role.copy(alloc).map(Body::Transitive),
+            Body::Reflexive(role) => role.copy(alloc).map(Body::Reflexive),
+            Body::Symmetric(role) => role.copy(alloc).map(Body::Symmetric),
+            Body::Asymmetric(role) => role.copy(alloc).map(Body::Asymmetric),
+            Body::Functional(role) => role.copy(alloc).map(Body::Functional),
+            Body::InverseFunctional(role) => role.copy(alloc).map(Body::InverseFunctional),
+            Body::Domain(role, class) => of_two(alloc, role, class, Body::Domain),
+            Body::Range(role, class) => of_two(alloc, role, class, Body::Range),
+            Body::ClassAssertion(class, name) => of_two(alloc, class, name, Body::ClassAssertion),
+            Body::RoleAssertion(role, from, to) => of_three(
+                alloc,
+                role,
+                from,
+                to,
+                Body::RoleAssertion,
+            ),
+            Body::Declaration(name) => name.copy(alloc).map(Body::Declaration),
+            Body::Note(subject, property, value) => of_three(
+                alloc,
+                subject,
+                property,
+                value,
+                Body::Note,
+            ),
+            Body::OntologyNote(property, value) => of_two(
+                alloc,
+                property,
+                value,
+                Body::OntologyNote,
+            ),
         }
     }
 }
@@ -109,26 +114,34 @@ impl Dup for Axiom {
     }
 }
 
-/// Copies of two values.
-fn both<A: Dup + Drop, B: Dup>(alloc: Global, first: &A, second: &B) -> Result<(A, B), NoMemory>
-    ensures { IfOk result (λ twins. twins ≡ (first.now, second.now)) }
+/// What is made of copies of two values.
+fn of_two<A: Dup + Drop, B: Dup, F: FnOnce(A, B) -> Body + Drop>(
+    alloc: Global,
+    first: &A,
+    second: &B,
+    make: F,
+) -> Result<Body, NoMemory>
+    requires { F.IsAlwaysCallable make }
+    ensures { IfOk result (λ made. F.post make first.now second.now made) }
 {
     let first = first.copy(alloc)?;
     let second = second.copy(alloc)?;
-    Ok((first, second))
+    Ok(make(first, second))
 }
 
-/// Copies of three values.
-fn all_three<A: Dup + Drop, B: Dup + Drop, C: Dup>(
+/// What is made of copies of three values.
+fn of_three<A: Dup + Drop, B: Dup + Drop, C: Dup, F: FnOnce(A, B, C) -> Body + Drop>(
     alloc: Global,
     first: &A,
     second: &B,
     third: &C,
-) -> Result<(A, B, C), NoMemory>
-    ensures { IfOk result (λ twins. twins ≡ (first.now, second.now, third.now)) }
+    make: F,
+) -> Result<Body, NoMemory>
+    requires { F.IsAlwaysCallable make }
+    ensures { IfOk result (λ made. F.post make first.now second.now third.now made) }
 {
     let first = first.copy(alloc)?;
     let second = second.copy(alloc)?;
     let third = third.copy(alloc)?;
-    Ok((first, second, third))
+    Ok(make(first, second, third))
 }

@@ -6,7 +6,7 @@ use std::alloc::Global;
 
 /// A class expression as a tree. `Thing` and `Nothing` are owl:Thing and owl:Nothing; an `Iri` beside an
 /// expression is that of an object property.
-#[derive(Debug, PartialEq, Eq, Hash, Drop)]
+#[derive(PartialEq, Eq, Hash, Drop)]
 pub enum ClassExpr {
     /// owl:Thing.
     Thing,
@@ -46,34 +46,29 @@ fn copy_expr(alloc: Global, expr: &ClassExpr) -> Result<ClassExpr, NoMemory>
     match expr {
         ClassExpr::Thing => Ok(ClassExpr::Thing),
         ClassExpr::Nothing => Ok(ClassExpr::Nothing),
-        ClassExpr::Class(iri) => Ok(ClassExpr::Class(iri.copy(alloc)?)),
-        ClassExpr::And(operands) => Ok(ClassExpr::And(copy_exprs(alloc, operands.as_slice())?)),
-        ClassExpr::Or(operands) => Ok(ClassExpr::Or(copy_exprs(alloc, operands.as_slice())?)),
-        ClassExpr::Not(part) => Ok(ClassExpr::Not(copy_part(alloc, part)?)),
+        ClassExpr::Class(iri) => iri.copy(alloc).map(ClassExpr::Class),
+        ClassExpr::And(operands) => copy_exprs(alloc, operands.as_slice()).map(ClassExpr::And),
+        ClassExpr::Or(operands) => copy_exprs(alloc, operands.as_slice()).map(ClassExpr::Or),
+        ClassExpr::Not(part) => copy_part(alloc, part).map(ClassExpr::Not),
         ClassExpr::Some(role, part) => {
-            let (role, part) = copy_filler(alloc, role, part)?;
-            Ok(ClassExpr::Some(role, part))
+            copy_filler(alloc, role, part).map(|(role, part)| ClassExpr::Some(role, part))
         }
         ClassExpr::All(role, part) => {
-            let (role, part) = copy_filler(alloc, role, part)?;
-            Ok(ClassExpr::All(role, part))
+            copy_filler(alloc, role, part).map(|(role, part)| ClassExpr::All(role, part))
         }
         ClassExpr::Min(n, role, part) => {
-            let (role, part) = copy_filler(alloc, role, part)?;
-            Ok(ClassExpr::Min(*n, role, part))
+            copy_filler(alloc, role, part).map(|(role, part)| ClassExpr::Min(*n, role, part))
         }
         ClassExpr::Max(n, role, part) => {
-            let (role, part) = copy_filler(alloc, role, part)?;
-            Ok(ClassExpr::Max(*n, role, part))
+            copy_filler(alloc, role, part).map(|(role, part)| ClassExpr::Max(*n, role, part))
         }
         ClassExpr::Exact(n, role, part) => {
-            let (role, part) = copy_filler(alloc, role, part)?;
-            Ok(ClassExpr::Exact(*n, role, part))
+            copy_filler(alloc, role, part).map(|(role, part)| ClassExpr::Exact(*n, role, part))
         }
     }
 }
 
-/// A copy of a property and of the filler beside it.
+/// Copies of a property and of the filler beside it.
 #[cycle(copying)]
 fn copy_filler(
     alloc: Global,
