@@ -24,7 +24,7 @@ pub enum WordKind {
 }
 
 /// What ended a chain before its end.
-#[derive(Debug, PartialEq, Eq, Drop)]
+#[derive(PartialEq, Eq, Drop)]
 pub enum Fault {
     /// The first word that departs from the form of a chain.
     BadWord {
@@ -104,7 +104,7 @@ pub enum Fault {
 }
 
 /// How the program ended: its status, and its fault where the status is not 0.
-#[derive(Debug, PartialEq, Eq, Drop)]
+#[derive(PartialEq, Eq, Drop)]
 pub struct Ended {
     /// The status of the process: 0 for success, 1 for a refused file, 2 for refused words, 3 for a failed
     /// read or write, 4 for want of memory.
@@ -153,44 +153,43 @@ impl Dup for Fault {
                 index: *index,
                 kind: *kind,
             }),
-            Fault::MissingInput { name } => Ok(Fault::MissingInput {
-                name: name.copy(alloc)?,
-            }),
-            Fault::TooManyBytes { name, limit } => Ok(Fault::TooManyBytes {
-                name: name.copy(alloc)?,
-                limit: *limit,
-            }),
-            Fault::NotUtf8 { file, line } => Ok(Fault::NotUtf8 {
-                file: file.copy(alloc)?,
-                line: *line,
-            }),
-            Fault::LineTooLong { file, line } => Ok(Fault::LineTooLong {
-                file: file.copy(alloc)?,
-                line: *line,
-            }),
-            Fault::Syntax { file, line, kind } => Ok(Fault::Syntax {
-                file: file.copy(alloc)?,
-                line: *line,
-                kind: *kind,
-            }),
-            Fault::NoId { file, line } => Ok(Fault::NoId {
-                file: file.copy(alloc)?,
-                line: *line,
-            }),
-            Fault::ShortGroup { file, line } => Ok(Fault::ShortGroup {
-                file: file.copy(alloc)?,
-                line: *line,
-            }),
-            Fault::LineNotBuilt { file, line } => Ok(Fault::LineNotBuilt {
-                file: file.copy(alloc)?,
-                line: *line,
-            }),
-            Fault::ReadFault { name } => Ok(Fault::ReadFault {
-                name: name.copy(alloc)?,
-            }),
-            Fault::WriteFault { name } => Ok(Fault::WriteFault {
-                name: name.copy(alloc)?,
-            }),
+            Fault::MissingInput { name } => name
+                .copy(alloc)
+                .map(|name| Fault::MissingInput { name }),
+            Fault::TooManyBytes { name, limit } => {
+                name.copy(alloc).map(|name| Fault::TooManyBytes {
+                    name,
+                    limit: *limit,
+                })
+            }
+            Fault::NotUtf8 { file, line } => {
+                file.copy(alloc)
+                    .map(|file| Fault::NotUtf8 { file, line: *line })
+            }
+            Fault::LineTooLong { file, line } => {
+                file.copy(alloc)
+                    .map(|file| Fault::LineTooLong { file, line: *line })
+            }
+            Fault::Syntax { file, line, kind } => {
+                file.copy(alloc).map(|file| Fault::Syntax {
+                    file,
+                    line: *line,
+                    kind: *kind,
+                })
+            }
+            Fault::NoId { file, line } => file
+                .copy(alloc)
+                .map(|file| Fault::NoId { file, line: *line }),
+            Fault::ShortGroup { file, line } => {
+                file.copy(alloc)
+                    .map(|file| Fault::ShortGroup { file, line: *line })
+            }
+            Fault::LineNotBuilt { file, line } => {
+                file.copy(alloc)
+                    .map(|file| Fault::LineNotBuilt { file, line: *line })
+            }
+            Fault::ReadFault { name } => name.copy(alloc).map(|name| Fault::ReadFault { name }),
+            Fault::WriteFault { name } => name.copy(alloc).map(|name| Fault::WriteFault { name }),
             Fault::NoMemory => Ok(Fault::NoMemory),
         }
     }

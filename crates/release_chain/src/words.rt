@@ -11,7 +11,7 @@ use rel_io::Bytes;
 use std::alloc::Global;
 
 /// The first word that departs from the chain.
-#[derive(Clone, Copy, Debug)]
+#[derive(Clone, Copy)]
 pub struct WrongWord {
     /// Its index, from 0 behind the program's name.
     pub index: u32,
@@ -20,7 +20,7 @@ pub struct WrongWord {
 }
 
 /// The names of the files of a chain.
-#[derive(Debug, Drop)]
+#[derive(Drop)]
 pub struct Paths {
     /// The name of the input.
     pub input: Bytes,
