@@ -1,12 +1,12 @@
 //! Clauses, and what they are made of (OBO Flat File Format 1.4, the tags of each frame).
 ghost use Rattle.std.specs.Prelude.{◌≡◌, IfOk};
-ghost use Rattle.obo_clause.specs.declared.clause.Value.TheVariants.{Def, Link, Literal, SubsetDef, Synonym, SynonymDef};
+ghost use Rattle.obo_clause.specs.declared.clause.Value.TheVariants.{Def, Link, Literal, Pair, SubsetDef, Synonym, SynonymDef};
 
 use rel_io::{Bytes, Dup, Items, NoMemory};
 use std::alloc::Global;
 
 /// A trailing qualifier, as `source="EX:1"` in a block behind a value.
-#[derive(Debug, PartialEq, Eq, Drop)]
+#[derive(PartialEq, Eq, Drop)]
 pub struct Qualifier {
     /// What stands before the `=`, as it is written.
     pub key: Bytes,
@@ -15,7 +15,7 @@ pub struct Qualifier {
 }
 
 /// A dbxref: a reference to an entry elsewhere, as `PMID:1 "a paper"`.
-#[derive(Debug, PartialEq, Eq, Drop)]
+#[derive(PartialEq, Eq, Drop)]
 pub struct Xref {
     /// The entry.
     pub id: Bytes,
@@ -37,7 +37,7 @@ pub enum Scope {
 }
 
 /// The value of a clause, after escapes are read. Its variant goes by the tag, in the frame in which it stands.
-#[derive(Debug, PartialEq, Eq, Drop)]
+#[derive(PartialEq, Eq, Drop)]
 pub enum Value {
     /// A run of characters, as of `name`.
     Text(Bytes),
@@ -104,7 +104,7 @@ pub enum Value {
 }
 
 /// What one line says of its frame.
-#[derive(Debug, PartialEq, Eq, Drop)]
+#[derive(PartialEq, Eq, Drop)]
 pub struct Clause {
     /// What stands before the colon.
     pub tag: Bytes,
@@ -115,7 +115,7 @@ pub struct Clause {
 }
 
 /// What stands behind the tag of a clause.
-#[derive(Debug, PartialEq, Eq, Drop)]
+#[derive(PartialEq, Eq, Drop)]
 pub struct Content {
     /// The value, in the shape of the tag.
     pub value: Value,
@@ -148,8 +148,8 @@ impl Dup for Xref {
 impl Dup for Clause {
     fn copy(&self, alloc: Global) -> Result<Clause, NoMemory> {
         let tag = self.tag.copy(alloc)?;
-        let value = self.value.copy(alloc)?;
         let qualifiers = self.qualifiers.copy(alloc)?;
+        let value = self.value.copy(alloc)?;
         Ok(Clause {
             tag,
             value,
@@ -161,13 +161,9 @@ impl Dup for Clause {
 impl Dup for Value {
     fn copy(&self, alloc: Global) -> Result<Value, NoMemory> {
         match self {
-            Value::Text(text) => Ok(Value::Text(text.copy(alloc)?)),
-            Value::Id(id) => Ok(Value::Id(id.copy(alloc)?)),
-            Value::Pair(first, second) => {
-                let first = first.copy(alloc)?;
-                let second = second.copy(alloc)?;
-                Ok(Value::Pair(first, second))
-            }
+            Value::Text(text) => text.copy(alloc).map(Value::Text),
+            Value::Id(id) => id.copy(alloc).map(Value::Id),
+            Value::Pair(first, second) => copy_of_pair(alloc, first, second),
             Value::Bool(truth) => Ok(Value::Bool(*truth)),
             Value::Def { text, xrefs } => copy_of_def(alloc, text, xrefs),
             Value::Synonym {
@@ -176,7 +172,7 @@ impl Dup for Value {
                 kind,
                 xrefs,
             } => copy_of_synonym(alloc, text, *scope, kind, xrefs),
-            Value::XrefValue(xref) => Ok(Value::XrefValue(xref.copy(alloc)?)),
+            Value::XrefValue(xref) => xref.copy(alloc).map(Value::XrefValue),
             Value::Literal {
                 relation,
                 text,
@@ -185,9 +181,18 @@ impl Dup for Value {
             Value::Link { relation, target } => copy_of_link(alloc, relation, target),
             Value::SubsetDef { id, text } => copy_of_subset_def(alloc, id, text),
             Value::SynonymDef { id, text, scope } => copy_of_synonym_def(alloc, id, text, *scope),
-            Value::Raw(text) => Ok(Value::Raw(text.copy(alloc)?)),
+            Value::Raw(text) => text.copy(alloc).map(Value::Raw),
         }
     }
+}
+
+/// A pair equal to these parts.
+fn copy_of_pair(alloc: Global, first: &Bytes, second: &Bytes) -> Result<Value, NoMemory>
+    ensures { IfOk result (λ twin. twin ≡ Pair first.now second.now) }
+{
+    let first = first.copy(alloc)?;
+    let second = second.copy(alloc)?;
+    Ok(Value::Pair(first, second))
 }
 
 /// A definition equal to these parts.

@@ -8,7 +8,7 @@ use rel_io::{Dup, NoMemory};
 use std::alloc::Global;
 
 /// What a line says.
-#[derive(Debug, PartialEq, Eq, Drop)]
+#[derive(PartialEq, Eq, Drop)]
 pub enum Line {
     /// Nothing, or a comment alone.
     Blank,
@@ -55,7 +55,7 @@ impl Dup for Line {
         match self {
             Line::Blank => Ok(Line::Blank),
             Line::Frame(kind) => Ok(Line::Frame(*kind)),
-            Line::Content(clause) => Ok(Line::Content(clause.copy(alloc)?)),
+            Line::Content(clause) => clause.copy(alloc).map(Line::Content),
         }
     }
 }

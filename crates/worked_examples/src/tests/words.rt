@@ -1,6 +1,5 @@
 //! What words ask for, with the answers worked out by hand from the table of commands.
-use super::is_copied;
-use crate::parts_of;
+use super::{is_copied, push, wrong_in};
 use chain_words::{Chain, Command, Output, Step, read_words};
 use rel_io::{Bytes, NoMemory};
 use std::alloc::{AllocError, Global};
@@ -128,30 +127,25 @@ fn word_of(alloc: Global, text: &str) -> Result<String, AllocError> {
 
 #[test]
 fn words_are_accepted_or_the_first_bad_one_is_named(rt: HostRuntime) -> Result<(), Fail> {
-    for example in ANSWERS.lines() {
-        let (words, wanted) = parts_of(example).ok_or("no arrow")?;
-        let answer = answer_to(rt.alloc(), words)?;
-        assert_eq!(rt; answer.as_str(), wanted, "{example}");
-    }
+    let wrong = wrong_in(rt.alloc(), ANSWERS, answer_to)?;
+    assert_eq!(rt; wrong.as_str(), "");
     Ok(())
 }
 
 /// What the answer to these words is.
-fn answer_to(alloc: Global, text: &str) -> Result<String, NoMemory> {
+fn answer_to(alloc: Global, text: &str) -> Result<Vec<u8>, NoMemory> {
     let words = words_of(alloc, text)?;
-    match read_words(alloc, &words) {
-        Ok(_) => Ok(String::from_str(alloc, "accepted")?),
-        Err(fault) => Ok(format!(in alloc; "{fault}")?),
-    }
+    let shown = match read_words(alloc, &words) {
+        Ok(_) => String::from_str(alloc, "accepted"),
+        Err(fault) => format!(in alloc; "{fault}"),
+    };
+    Ok(shown?.into_bytes())
 }
 
 #[test]
 fn accepted_words_mean_their_chain(rt: HostRuntime) -> Result<(), Fail> {
-    for example in CHAINS.lines() {
-        let (words, wanted) = parts_of(example).ok_or("no arrow")?;
-        let meant = meant_by(rt.alloc(), words)?;
-        assert_eq!(rt; meant.as_slice(), wanted.as_bytes(), "{example}");
-    }
+    let wrong = wrong_in(rt.alloc(), CHAINS, meant_by)?;
+    assert_eq!(rt; wrong.as_str(), "");
     Ok(())
 }
 
@@ -191,21 +185,17 @@ fn shown_chain(alloc: Global, chain: &Chain) -> Result<Vec<u8>, NoMemory> {
 }
 
 fn push_name(out: &mut Vec<u8>, before: &[u8], name: &Bytes) -> Result<(), NoMemory> {
-    out.extend_from_slice(before)?;
-    out.extend_from_slice(name.as_slice())?;
-    Ok(())
+    push(out, before)?;
+    push(out, name.as_slice())
 }
 
 fn push_step(alloc: Global, out: &mut Vec<u8>, step: &Step) -> Result<(), NoMemory> {
     match step {
         Step::Extract { method, terms } => {
-            out.extend_from_slice(format!(in alloc; ", {method:?}")?.as_bytes())?;
+            push(out, format!(in alloc; ", {method:?}")?.as_bytes())?;
             push_name(out, b" ", terms)
         }
-        _ => {
-            out.extend_from_slice(format!(in alloc; ", {step:?}")?.as_bytes())?;
-            Ok(())
-        }
+        _ => push(out, format!(in alloc; ", {step:?}")?.as_bytes()),
     }
 }
 
@@ -213,7 +203,7 @@ fn push_output(alloc: Global, out: &mut Vec<u8>, output: &Option<Output>) -> Res
     if let Some(output) = output {
         push_name(out, b", ", &output.name)?;
         let rest = format!(in alloc; " {:?} {}", output.format, output.check)?;
-        out.extend_from_slice(rest.as_bytes())?;
+        push(out, rest.as_bytes())?;
     }
     Ok(())
 }
