@@ -14,6 +14,3 @@ pub use fault::{Ended, Fault, WordKind};
 pub use input::{FileFault, read_file};
 pub use laws::chains_are_accepted;
 pub use program::release;
-
-#[cfg(test)]
-mod tests;

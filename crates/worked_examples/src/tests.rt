@@ -7,6 +7,7 @@ mod iris;
 mod lines;
 mod ontologies;
 mod printed;
+mod runs;
 mod tags;
 mod words;
 
