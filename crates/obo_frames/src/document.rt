@@ -10,7 +10,7 @@ use std::marker::Model;
 /// A document, seen as the list of its placed clauses. Some line spells each of them in its frame. Clauses of the
 /// header, and they alone, have an empty id. Each other frame has an `id` clause with its id and without qualifiers, and
 /// no Term has a group of one expression alone.
-#[derive(Debug, Drop)]
+#[derive(Drop)]
 pub struct Document {
     placed: Items<Placed>,
 }

@@ -19,7 +19,7 @@ use std::alloc::Global;
 use std::collections::BTreeMap;
 
 /// The expression that a clause of a group stands for.
-#[derive(Debug, Drop)]
+#[derive(Drop)]
 enum Expression {
     /// The class of this IRI.
     Class(Iri),
@@ -28,7 +28,7 @@ enum Expression {
 }
 
 /// A clause of a group.
-#[derive(Debug, Drop)]
+#[derive(Drop)]
 struct Operand {
     /// The number of its line.
     line: u32,
@@ -39,7 +39,7 @@ struct Operand {
 }
 
 /// The expressions of a group.
-#[derive(Debug, Drop)]
+#[derive(Drop)]
 enum Summary {
     /// All clauses stand for this one.
     One(Expression),
@@ -160,9 +160,9 @@ fn add_operand(
 ) -> Result<(), NoMemory>
     ensures { OnOk result (AddsOperand groups.old groups.new operand.now) }
 {
-    let held = joined(alloc, groups.get(&operand.group), &operand.expression)?;
     let group = operand.group.copy(alloc)?;
-    groups.insert(group, held)?;
+    let held = joined(alloc, groups.get(&operand.group), &operand.expression)?;
+    drop(groups.insert(group, held)?);
     Ok(())
 }
 

@@ -5,7 +5,7 @@ use rel_io::{Bytes, Dup, NoMemory};
 use std::alloc::Global;
 
 /// A clause, with the frame and the line in which it stands.
-#[derive(Debug, PartialEq, Eq, Drop)]
+#[derive(PartialEq, Eq, Drop)]
 pub struct Placed {
     /// The kind of the frame.
     pub frame: FrameKind,

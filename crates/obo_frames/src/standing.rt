@@ -144,6 +144,7 @@ fn placed_first(
     ensures lost { IfOk result (λ next. next.lost ≡ least_line lost (lost_unless (spec.id_in clause) begun)) }
 {
     let Some(id) = id_in(&clause) else {
+        drop(clause);
         let lost = Some(lesser_line(lost, begun));
         return Ok(Draft {
             standing: Standing::Nameless,
@@ -151,9 +152,16 @@ fn placed_first(
             lost,
         });
     };
-    let id = id.copy(alloc)?;
-    let clause = without_qualifiers(alloc, clause);
-    placed_within(alloc, placed, lost, kind, id, line, clause)
+    match id.copy(alloc) {
+        Ok(id) => {
+            let clause = without_qualifiers(alloc, clause);
+            placed_within(alloc, placed, lost, kind, id, line, clause)
+        }
+        Err(none) => {
+            drop(clause);
+            Err(none)
+        }
+    }
 }
 
 /// A clause of the frame with this id.
@@ -170,13 +178,21 @@ fn placed_within(
     ensures placed { IfOk result (λ next. next.placed.items ≡ placed.items ++ spec.place kind id (record { line = line; clause = clause }) ∷ []) }
     ensures lost { IfOk result (λ next. next.lost ≡ lost) }
 {
-    let one = Placed {
-        frame: kind,
-        id: id.copy(alloc)?,
-        line,
-        clause,
-    };
-    with_placed(placed, lost, one, Standing::Within { kind, id })
+    match id.copy(alloc) {
+        Ok(own) => {
+            let one = Placed {
+                frame: kind,
+                id: own,
+                line,
+                clause,
+            };
+            with_placed(placed, lost, one, Standing::Within { kind, id })
+        }
+        Err(none) => {
+            drop(clause);
+            Err(none)
+        }
+    }
 }
 
 /// One placed clause more, and what the clauses behind it belong to.
