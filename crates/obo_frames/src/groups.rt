@@ -115,15 +115,15 @@ fn operand_in(
     if !matches!(placed.frame, FrameKind::Term) || placed.clause.tag.as_slice() != tag {
         return Ok(None);
     }
-    let Some(expression) = expression_of(alloc, name, &placed.clause.value)? else {
-        return Ok(None);
-    };
     let group = iri_of(alloc, &placed.id, name)?;
-    Ok(Some(Operand {
-        line: placed.line,
-        group,
-        expression,
-    }))
+    match expression_of(alloc, name, &placed.clause.value)? {
+        Some(expression) => Ok(Some(Operand {
+            line: placed.line,
+            group,
+            expression,
+        })),
+        None => Ok(None),
+    }
 }
 
 /// The expression that a value stands for.

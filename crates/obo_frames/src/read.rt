@@ -5,7 +5,7 @@ ghost use Rattle.obo_frames.specs.Documents.{AnswersDocument, AnswersFault, IsDo
 
 use crate::groups::short_line;
 use crate::lines::read_lines;
-use crate::standing::lost_at_end;
+use crate::standing::{Draft, lost_at_end};
 use crate::{DocFault, Document};
 use std::alloc::Global;
 
@@ -32,11 +32,20 @@ fn judged(alloc: Global, bytes: &[u8], line_limit: u32) -> Result<Document, DocF
     ensures refused { AnswersFault line_limit bytes.now result }
 {
     let draft = read_lines(alloc, bytes, line_limit)?;
-    let lost = lost_at_end(&draft.standing, draft.lost);
-    let short = short_line(alloc, draft.placed.as_slice())?;
+    let Draft {
+        standing,
+        placed,
+        lost,
+    } = draft;
+    let lost = lost_at_end(&standing, lost);
+    drop(standing);
+    let short = short_line(alloc, placed.as_slice())?;
     match frame_fault(lost, short) {
-        Some(fault) => Err(fault),
-        None => Ok(Document::of(draft.placed)),
+        Some(fault) => {
+            drop(placed);
+            Err(fault)
+        }
+        None => Ok(Document::of(placed)),
     }
 }
 
