@@ -41,10 +41,7 @@ fn judged(alloc: Global, bytes: &[u8], line_limit: u32) -> Result<Document, DocF
     drop(standing);
     let short = short_line(alloc, placed.as_slice())?;
     match frame_fault(lost, short) {
-        Some(fault) => {
-            drop(placed);
-            Err(fault)
-        }
+        Some(fault) => Err(fault),
         None => Ok(Document::of(placed)),
     }
 }
