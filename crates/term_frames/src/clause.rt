@@ -2,7 +2,7 @@
 use rel_io::Bytes;
 
 /// The tags of clauses, in the order in which a frame has them (OBO Flat File Format 1.4, term frames).
-#[derive(Clone, Copy, Debug, PartialEq, Eq, PartialOrd, Ord)]
+#[derive(Clone, Copy, PartialEq, Eq, PartialOrd, Ord)]
 pub enum Tag {
     /// `id`: the frame is there.
     Id,
@@ -13,7 +13,7 @@ pub enum Tag {
 }
 
 /// A clause of a term frame. Clauses are ordered by frame, by tag, and by value.
-#[derive(Debug, PartialEq, Eq, PartialOrd, Ord, Drop)]
+#[derive(PartialEq, Eq, PartialOrd, Ord, Drop)]
 pub struct Clause {
     /// The id of the frame.
     pub frame: Bytes,

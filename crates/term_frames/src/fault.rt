@@ -6,7 +6,7 @@ use rel_io::NoMemory;
 use std::alloc::AllocError;
 
 /// Why the axioms of a file were not read.
-#[derive(Clone, Copy, Debug, PartialEq, Eq)]
+#[derive(Clone, Copy, PartialEq, Eq)]
 pub enum TermsFault {
     /// The least line, from 1, whose form is not built yet.
     LineNotBuilt { line: u32 },

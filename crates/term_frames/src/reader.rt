@@ -55,8 +55,13 @@ pub fn read_ontology(alloc: Global, bytes: &[u8]) -> Result<Ontology, TermsFault
     };
     let space = name_or_temp(alloc, name.as_ref())?;
     let mut ontology = Ontology::new(alloc, name)?;
-    read_frames(alloc, &mut ontology, &space, header.number, header.rest)?;
-    Ok(ontology)
+    match read_frames(alloc, &mut ontology, &space, header.number, header.rest) {
+        Ok(()) => Ok(ontology),
+        Err(fault) => {
+            drop(ontology);
+            Err(fault)
+        }
+    }
 }
 
 /// Reads the lines before the first frame line.

@@ -2,6 +2,7 @@
 ghost use Rattle.std.specs.Prelude.{◌≡◌, ◌++◌, ◌∷◌, [], IfOk, List, OnOk, codes, flat_map};
 ghost use Rattle.std.specs.List.{filter_map};
 ghost use Rattle.std.specs.Option.{option_copied};
+ghost use Rattle.iri_map.specs.Ontology.{name_or_temp};
 ghost use Rattle.owl_ontology.specs.Ontology.{axioms_of};
 ghost use Rattle.term_frames.specs.Lines.{ended};
 ghost use Rattle.term_frames.specs.Mapping.{clause_of};
@@ -25,10 +26,11 @@ type Names<'a> = BTreeMap<&'a [u8], Option<&'a [u8]>>;
 pub fn obo_text(alloc: Global, ontology: Ontology) -> Result<Bytes, NoMemory>
     ensures { IfOk result (λ text. text ≡ spec.obo_text ontology) }
 {
-    let space = name_or_temp(alloc, ontology.name())?;
-    let clauses = sorted_clauses(alloc, &space, &ontology)?;
-    let mut text = header_text(alloc, ontology.name())?;
+    let clauses = sorted_clauses(alloc, &ontology);
+    let text = header_text(alloc, ontology.name());
     drop(ontology);
+    let clauses = clauses?;
+    let mut text = text?;
     let names = names_of_frames(alloc, clauses.as_slice())?;
     push_clauses(&mut text, clauses.as_slice(), &names)?;
     Ok(Bytes::from_vec(text))
@@ -45,14 +47,11 @@ fn push_clauses(text: &mut Vec<u8>, clauses: &[Clause], names: &Names<'_>) -> Re
 }
 
 /// The clauses of the axioms, each once, in order.
-fn sorted_clauses(
-    alloc: Global,
-    space: &Bytes,
-    ontology: &Ontology,
-) -> Result<Vec<Clause>, NoMemory>
-    ensures { IfOk result (λ clauses. clauses.items ≡ spec.sorted_clauses space.now (axioms_of ontology.now.entries)) }
+fn sorted_clauses(alloc: Global, ontology: &Ontology) -> Result<Vec<Clause>, NoMemory>
+    ensures { IfOk result (λ clauses. clauses.items ≡ spec.sorted_clauses (name_or_temp ontology.now.name) (axioms_of ontology.now.entries)) }
 {
-    let mut clauses = clauses_of_axioms(alloc, space, ontology)?;
+    let space = name_or_temp(alloc, ontology.name())?;
+    let mut clauses = clauses_of_axioms(alloc, &space, ontology)?;
     clauses.sort_unstable();
     clauses.dedup();
     Ok(clauses)
