@@ -22,7 +22,6 @@ use std::alloc::Global;
 const RDFS_LABEL: &[u8] = b"http://www.w3.org/2000/01/rdf-schema#label";
 
 /// The declaration of the class that an id names.
-#[tactic(auto, unfolding(crate::specs::Mapping::axiom_of), using(crate::proofs::MappingLemmas::proper_declaration))]
 pub fn declaration(alloc: Global, space: &Bytes, id: &[u8]) -> Result<Axiom, NoMemory>
     ensures exact { IfOk result (λ one. one ≡ spec.axiom_of space.now (clause id.now tag.Id [])) }
     ensures proper { IfOk result IsProper }
@@ -32,19 +31,17 @@ pub fn declaration(alloc: Global, space: &Bytes, id: &[u8]) -> Result<Axiom, NoM
 }
 
 /// The label of the class that an id names.
-#[tactic(auto, unfolding(crate::specs::Mapping::axiom_of), using(crate::proofs::MappingLemmas::proper_label))]
 pub fn label(alloc: Global, space: &Bytes, id: &[u8], text: &[u8]) -> Result<Axiom, NoMemory>
     ensures exact { IfOk result (λ one. one ≡ spec.axiom_of space.now (clause id.now tag.Name text.now)) }
     ensures proper { IfOk result IsProper }
 {
-    let name = class_named(alloc, space, id)?;
-    let property = label_property(alloc)?;
     let text = Bytes::from_slice(alloc, text)?;
+    let property = label_property(alloc)?;
+    let name = class_named(alloc, space, id)?;
     Ok(plain(alloc, Body::Note(name, property, NoteValue::Text(text))))
 }
 
 /// The class of a canonical id as a subclass of that of another one.
-#[tactic(auto, unfolding(crate::specs::Mapping::axiom_of), using(crate::proofs::MappingLemmas::proper_subclass))]
 pub fn subclass(alloc: Global, space: &Bytes, id: &[u8], parent: &[u8]) -> Result<Axiom, NoMemory>
     requires id { IsTrue (is_canonical_id id.now) }
     requires parent { IsTrue (is_canonical_id parent.now) }
