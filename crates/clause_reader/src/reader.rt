@@ -111,8 +111,9 @@ fn read_tagged(
 ) -> Result<Line, LineFault>
     ensures { Gives (read.read_tagged kind first tag.now bytes.now) result }
 {
-    let read = read_shape(alloc, shape_at(kind, first, tag), bytes)?;
+    let shape = shape_at(kind, first, tag);
     let tag = Bytes::from_slice(alloc, tag)?;
+    let read = read_shape(alloc, shape, bytes)?;
     Ok(Line::Content(Clause {
         tag,
         value: read.value,

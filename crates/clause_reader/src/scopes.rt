@@ -101,8 +101,6 @@ pub fn type_scope_at(alloc: Global, marks: &[Mark]) -> Result<(Option<Scope>, &[
     let Some((word, rest)) = word_at(marks) else {
         return Ok((None, marks));
     };
-    match scope_of(&text_of(alloc, word)?) {
-        None => Err(LineFault::Syntax(SyntaxKind::Trailing)),
-        Some(scope) => Ok((Some(scope), rest)),
-    }
+    let scope = scope_of(&text_of(alloc, word)?).ok_or(SyntaxKind::Trailing)?;
+    Ok((Some(scope), rest))
 }

@@ -63,14 +63,6 @@ fn read_raw(alloc: Global, bytes: &[u8]) -> Result<Content, LineFault>
     })
 }
 
-/// A value, where an ending stands behind it.
-fn ended(alloc: Global, marks: &[Mark], value: Value) -> Result<Content, LineFault>
-    ensures { Gives (read.ended marks.now value) result }
-{
-    let qualifiers = end_at(alloc, marks)?;
-    Ok(Content { value, qualifiers })
-}
-
 /// A run of characters.
 #[tactic(auto, unfolding(obo_clause::specs::ReadingLines::read_text))]
 fn read_text(alloc: Global, marks: &[Mark]) -> Result<Content, LineFault>
@@ -93,7 +85,11 @@ fn read_id(alloc: Global, marks: &[Mark]) -> Result<Content, LineFault>
 {
     let (word, rest) = want_word(marks)?;
     let word = text_of(alloc, word)?;
-    ended(alloc, rest, Value::Id(word))
+    let qualifiers = end_at(alloc, rest)?;
+    Ok(Content {
+        value: Value::Id(word),
+        qualifiers,
+    })
 }
 
 /// Two words.
@@ -105,22 +101,22 @@ fn read_pair(alloc: Global, marks: &[Mark]) -> Result<Content, LineFault>
     let (second, rest) = want_word(rest)?;
     let first = text_of(alloc, first)?;
     let second = text_of(alloc, second)?;
-    ended(alloc, rest, Value::Pair(first, second))
+    let qualifiers = end_at(alloc, rest)?;
+    Ok(Content {
+        value: Value::Pair(first, second),
+        qualifiers,
+    })
 }
 
 /// One word, or two.
-#[tactic(auto, unfolding(obo_clause::specs::ReadingLines::read_id_or_pair))]
+#[tactic(auto, unfolding(obo_clause::specs::ReadingLines::read_id, obo_clause::specs::ReadingLines::read_pair, obo_clause::specs::ReadingLines::read_id_or_pair))]
 fn read_id_or_pair(alloc: Global, marks: &[Mark]) -> Result<Content, LineFault>
     ensures { Gives (read.read_id_or_pair marks.now) result }
 {
-    let (first, rest) = want_word(marks)?;
-    let first = text_of(alloc, first)?;
+    let (_, rest) = want_word(marks)?;
     match word_at(rest) {
-        None => ended(alloc, rest, Value::Id(first)),
-        Some((second, rest)) => {
-            let second = text_of(alloc, second)?;
-            ended(alloc, rest, Value::Pair(first, second))
-        }
+        None => read_id(alloc, marks),
+        Some(_) => read_pair(alloc, marks),
     }
 }
 
@@ -147,7 +143,11 @@ fn read_bool(alloc: Global, marks: &[Mark]) -> Result<Content, LineFault>
 {
     let (word, rest) = want_word(marks)?;
     let truth = truth_of(&text_of(alloc, word)?)?;
-    ended(alloc, rest, Value::Bool(truth))
+    let qualifiers = end_at(alloc, rest)?;
+    Ok(Content {
+        value: Value::Bool(truth),
+        qualifiers,
+    })
 }
 
 /// A quoted text and its dbxrefs.
@@ -158,7 +158,11 @@ fn read_definition(alloc: Global, marks: &[Mark]) -> Result<Content, LineFault>
     let (text, rest) = quoted_at(marks)?;
     let (xrefs, rest) = list_at(alloc, rest)?;
     let text = text_of(alloc, text)?;
-    ended(alloc, rest, Value::Def { text, xrefs })
+    let qualifiers = end_at(alloc, rest)?;
+    Ok(Content {
+        value: Value::Def { text, xrefs },
+        qualifiers,
+    })
 }
 
 /// A quoted text, its scope, its type and its dbxrefs.
@@ -170,13 +174,16 @@ fn read_synonym(alloc: Global, marks: &[Mark]) -> Result<Content, LineFault>
     let text = text_of(alloc, text)?;
     let scoped = scoped_at(alloc, rest)?;
     let (xrefs, rest) = list_at(alloc, scoped.rest)?;
-    let value = Value::Synonym {
-        text,
-        scope: scoped.scope,
-        kind: scoped.kind,
-        xrefs,
-    };
-    ended(alloc, rest, value)
+    let qualifiers = end_at(alloc, rest)?;
+    Ok(Content {
+        value: Value::Synonym {
+            text,
+            scope: scoped.scope,
+            kind: scoped.kind,
+            xrefs,
+        },
+        qualifiers,
+    })
 }
 
 /// A run of characters, and its label.
@@ -207,8 +214,15 @@ fn labelled(alloc: Global, id: Bytes, marks: &[Mark]) -> Result<Content, LineFau
     ensures { Gives (read.labelled id marks.now) result }
 {
     let (label, rest) = quoted_at(marks)?;
-    let label = Some(text_of(alloc, label)?);
-    ended(alloc, rest, Value::XrefValue(Xref { id, label }))
+    let label = text_of(alloc, label)?;
+    let qualifiers = end_at(alloc, rest)?;
+    Ok(Content {
+        value: Value::XrefValue(Xref {
+            id,
+            label: Some(label),
+        }),
+        qualifiers,
+    })
 }
 
 /// A property, and a quoted text with its datatype or a word.
@@ -233,12 +247,15 @@ fn read_literal(alloc: Global, relation: Bytes, marks: &[Mark]) -> Result<Conten
     let text = text_of(alloc, text)?;
     let (datatype, rest) = may_have_word(rest);
     let datatype = datatype_of(alloc, datatype)?;
-    let value = Value::Literal {
-        relation,
-        text,
-        datatype,
-    };
-    ended(alloc, rest, value)
+    let qualifiers = end_at(alloc, rest)?;
+    Ok(Content {
+        value: Value::Literal {
+            relation,
+            text,
+            datatype,
+        },
+        qualifiers,
+    })
 }
 
 /// The datatype that a word is, or that of a text that has none.
@@ -258,7 +275,11 @@ fn read_link(alloc: Global, relation: Bytes, marks: &[Mark]) -> Result<Content, 
 {
     let (target, rest) = want_word(marks)?;
     let target = text_of(alloc, target)?;
-    ended(alloc, rest, Value::Link { relation, target })
+    let qualifiers = end_at(alloc, rest)?;
+    Ok(Content {
+        value: Value::Link { relation, target },
+        qualifiers,
+    })
 }
 
 /// A word and a quoted text.
@@ -270,7 +291,11 @@ fn read_subset(alloc: Global, marks: &[Mark]) -> Result<Content, LineFault>
     let (text, rest) = quoted_at(rest)?;
     let id = text_of(alloc, id)?;
     let text = text_of(alloc, text)?;
-    ended(alloc, rest, Value::SubsetDef { id, text })
+    let qualifiers = end_at(alloc, rest)?;
+    Ok(Content {
+        value: Value::SubsetDef { id, text },
+        qualifiers,
+    })
 }
 
 /// A word, a quoted text, and its scope.
@@ -280,8 +305,12 @@ fn read_synonym_type(alloc: Global, marks: &[Mark]) -> Result<Content, LineFault
 {
     let (id, rest) = want_word(marks)?;
     let (text, rest) = quoted_at(rest)?;
+    let (scope, rest) = type_scope_at(alloc, rest)?;
     let id = text_of(alloc, id)?;
     let text = text_of(alloc, text)?;
-    let (scope, rest) = type_scope_at(alloc, rest)?;
-    ended(alloc, rest, Value::SynonymDef { id, text, scope })
+    let qualifiers = end_at(alloc, rest)?;
+    Ok(Content {
+        value: Value::SynonymDef { id, text, scope },
+        qualifiers,
+    })
 }
