@@ -1,7 +1,9 @@
 //! Values, each in the shape of its tag, with the qualifiers of the ending behind them.
-ghost use Rattle.std.specs.Prelude.{◌≡◌, ◌≢◌, ℕ, List, MatchResult, Ok, Err};
+ghost use Rattle.std.specs.Prelude.{◌≡◌, ◌≢◌, ℕ, List, IfOk, MatchResult, Ok, Err};
 ghost use Rattle.std.specs.Option.{option_copied};
+ghost use Rattle.std.specs.Result.{result_map_both};
 ghost use Rattle.obo_clause.specs.Marks as spec;
+ghost use Rattle.obo_clause.specs.Reading.{end_at};
 ghost use Rattle.clause_reader.specs.Results.{Gives};
 ghost use Rattle.obo_tags.specs.declared.kind.ValueShape.TheVariants.{Raw};
 ghost use Rattle.obo_clause.specs.ReadingLines as read;
@@ -12,7 +14,7 @@ use crate::lists::list_at;
 use crate::marks::{behind_blanks, marks_of, text_of, trim_end};
 use crate::runs::{behind_sign, quoted_at, want_word, word_at};
 use crate::scopes::{may_have_word, scoped_at, type_scope_at};
-use obo_clause::{Content, LineFault, Mark, SyntaxKind, Value, Xref};
+use obo_clause::{Content, LineFault, Mark, Qualifier, SyntaxKind, Value, Xref};
 use obo_tags::ValueShape;
 use rel_io::{Bytes, Items};
 use std::alloc::Global;
@@ -63,6 +65,36 @@ fn read_raw(alloc: Global, bytes: &[u8]) -> Result<Content, LineFault>
     })
 }
 
+/// A text, and the qualifiers of the ending behind it.
+fn text_to_end(
+    alloc: Global,
+    text: &[Mark],
+    rest: &[Mark],
+) -> Result<(Bytes, Items<Qualifier>), LineFault>
+    ensures text { IfOk result (λ one. one.0 ≡ spec.read_as text.now) }
+    ensures ending { Gives (end_at rest.now) (result_map_both (λ one. one.1) (λ fault. fault) result) }
+{
+    let text = text_of(alloc, text)?;
+    let qualifiers = end_at(alloc, rest)?;
+    Ok((text, qualifiers))
+}
+
+/// Two texts, and the qualifiers of the ending behind them.
+fn texts_to_end(
+    alloc: Global,
+    first: &[Mark],
+    second: &[Mark],
+    rest: &[Mark],
+) -> Result<(Bytes, Bytes, Items<Qualifier>), LineFault>
+    ensures first { IfOk result (λ one. one.0 ≡ spec.read_as first.now) }
+    ensures second { IfOk result (λ one. one.1 ≡ spec.read_as second.now) }
+    ensures ending { Gives (end_at rest.now) (result_map_both (λ one. one.2) (λ fault. fault) result) }
+{
+    let first = text_of(alloc, first)?;
+    let (second, qualifiers) = text_to_end(alloc, second, rest)?;
+    Ok((first, second, qualifiers))
+}
+
 /// A run of characters.
 #[tactic(auto, unfolding(obo_clause::specs::ReadingLines::read_text))]
 fn read_text(alloc: Global, marks: &[Mark]) -> Result<Content, LineFault>
@@ -84,8 +116,7 @@ fn read_id(alloc: Global, marks: &[Mark]) -> Result<Content, LineFault>
     ensures { Gives (read.read_id marks.now) result }
 {
     let (word, rest) = want_word(marks)?;
-    let word = text_of(alloc, word)?;
-    let qualifiers = end_at(alloc, rest)?;
+    let (word, qualifiers) = text_to_end(alloc, word, rest)?;
     Ok(Content {
         value: Value::Id(word),
         qualifiers,
@@ -99,9 +130,7 @@ fn read_pair(alloc: Global, marks: &[Mark]) -> Result<Content, LineFault>
 {
     let (first, rest) = want_word(marks)?;
     let (second, rest) = want_word(rest)?;
-    let first = text_of(alloc, first)?;
-    let second = text_of(alloc, second)?;
-    let qualifiers = end_at(alloc, rest)?;
+    let (first, second, qualifiers) = texts_to_end(alloc, first, second, rest)?;
     Ok(Content {
         value: Value::Pair(first, second),
         qualifiers,
@@ -157,8 +186,7 @@ fn read_definition(alloc: Global, marks: &[Mark]) -> Result<Content, LineFault>
 {
     let (text, rest) = quoted_at(marks)?;
     let (xrefs, rest) = list_at(alloc, rest)?;
-    let text = text_of(alloc, text)?;
-    let qualifiers = end_at(alloc, rest)?;
+    let (text, qualifiers) = text_to_end(alloc, text, rest)?;
     Ok(Content {
         value: Value::Def { text, xrefs },
         qualifiers,
@@ -171,10 +199,9 @@ fn read_synonym(alloc: Global, marks: &[Mark]) -> Result<Content, LineFault>
     ensures { Gives (read.read_synonym marks.now) result }
 {
     let (text, rest) = quoted_at(marks)?;
-    let text = text_of(alloc, text)?;
     let scoped = scoped_at(alloc, rest)?;
     let (xrefs, rest) = list_at(alloc, scoped.rest)?;
-    let qualifiers = end_at(alloc, rest)?;
+    let (text, qualifiers) = text_to_end(alloc, text, rest)?;
     Ok(Content {
         value: Value::Synonym {
             text,
@@ -199,23 +226,25 @@ fn read_xref(alloc: Global, marks: &[Mark]) -> Result<Content, LineFault>
     if run.is_empty() {
         return Err(LineFault::Syntax(SyntaxKind::NoValue));
     }
-    let id = text_of(alloc, trim_end(run))?;
+    let id = trim_end(run);
     match qualifiers {
         None => labelled(alloc, id, rest),
-        Some(qualifiers) => Ok(Content {
-            value: Value::XrefValue(Xref { id, label: None }),
-            qualifiers,
-        }),
+        Some(qualifiers) => {
+            let id = text_of(alloc, id)?;
+            Ok(Content {
+                value: Value::XrefValue(Xref { id, label: None }),
+                qualifiers,
+            })
+        }
     }
 }
 
 /// A label behind the run of an xref.
-fn labelled(alloc: Global, id: Bytes, marks: &[Mark]) -> Result<Content, LineFault>
-    ensures { Gives (read.labelled id marks.now) result }
+fn labelled(alloc: Global, id: &[Mark], marks: &[Mark]) -> Result<Content, LineFault>
+    ensures { Gives (read.labelled (spec.read_as id.now) marks.now) result }
 {
     let (label, rest) = quoted_at(marks)?;
-    let label = text_of(alloc, label)?;
-    let qualifiers = end_at(alloc, rest)?;
+    let (id, label, qualifiers) = texts_to_end(alloc, id, label, rest)?;
     Ok(Content {
         value: Value::XrefValue(Xref {
             id,
@@ -230,8 +259,7 @@ fn labelled(alloc: Global, id: Bytes, marks: &[Mark]) -> Result<Content, LineFau
 fn read_property(alloc: Global, marks: &[Mark]) -> Result<Content, LineFault>
     ensures { Gives (read.read_property marks.now) result }
 {
-    let (word, rest) = want_word(marks)?;
-    let relation = text_of(alloc, word)?;
+    let (relation, rest) = want_word(marks)?;
     match behind_sign(b'"', behind_blanks(rest)) {
         None => read_link(alloc, relation, rest),
         Some(_) => read_literal(alloc, relation, rest),
@@ -240,14 +268,13 @@ fn read_property(alloc: Global, marks: &[Mark]) -> Result<Content, LineFault>
 
 /// A quoted text and its datatype.
 #[tactic(auto, unfolding(obo_clause::specs::ReadingLines::read_literal))]
-fn read_literal(alloc: Global, relation: Bytes, marks: &[Mark]) -> Result<Content, LineFault>
-    ensures { Gives (read.read_literal relation marks.now) result }
+fn read_literal(alloc: Global, relation: &[Mark], marks: &[Mark]) -> Result<Content, LineFault>
+    ensures { Gives (read.read_literal (spec.read_as relation.now) marks.now) result }
 {
     let (text, rest) = quoted_at(marks)?;
-    let text = text_of(alloc, text)?;
     let (datatype, rest) = may_have_word(rest);
     let datatype = datatype_of(alloc, datatype)?;
-    let qualifiers = end_at(alloc, rest)?;
+    let (relation, text, qualifiers) = texts_to_end(alloc, relation, text, rest)?;
     Ok(Content {
         value: Value::Literal {
             relation,
@@ -270,12 +297,11 @@ fn datatype_of(alloc: Global, word: Option<&[Mark]>) -> Result<Bytes, LineFault>
 
 /// A word behind its property.
 #[tactic(auto, unfolding(obo_clause::specs::ReadingLines::read_link))]
-fn read_link(alloc: Global, relation: Bytes, marks: &[Mark]) -> Result<Content, LineFault>
-    ensures { Gives (read.read_link relation marks.now) result }
+fn read_link(alloc: Global, relation: &[Mark], marks: &[Mark]) -> Result<Content, LineFault>
+    ensures { Gives (read.read_link (spec.read_as relation.now) marks.now) result }
 {
     let (target, rest) = want_word(marks)?;
-    let target = text_of(alloc, target)?;
-    let qualifiers = end_at(alloc, rest)?;
+    let (relation, target, qualifiers) = texts_to_end(alloc, relation, target, rest)?;
     Ok(Content {
         value: Value::Link { relation, target },
         qualifiers,
@@ -289,9 +315,7 @@ fn read_subset(alloc: Global, marks: &[Mark]) -> Result<Content, LineFault>
 {
     let (id, rest) = want_word(marks)?;
     let (text, rest) = quoted_at(rest)?;
-    let id = text_of(alloc, id)?;
-    let text = text_of(alloc, text)?;
-    let qualifiers = end_at(alloc, rest)?;
+    let (id, text, qualifiers) = texts_to_end(alloc, id, text, rest)?;
     Ok(Content {
         value: Value::SubsetDef { id, text },
         qualifiers,
@@ -306,9 +330,7 @@ fn read_synonym_type(alloc: Global, marks: &[Mark]) -> Result<Content, LineFault
     let (id, rest) = want_word(marks)?;
     let (text, rest) = quoted_at(rest)?;
     let (scope, rest) = type_scope_at(alloc, rest)?;
-    let id = text_of(alloc, id)?;
-    let text = text_of(alloc, text)?;
-    let qualifiers = end_at(alloc, rest)?;
+    let (id, text, qualifiers) = texts_to_end(alloc, id, text, rest)?;
     Ok(Content {
         value: Value::SynonymDef { id, text, scope },
         qualifiers,
