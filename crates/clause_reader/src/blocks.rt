@@ -109,8 +109,10 @@ fn qualifiers_in(
 fn block_end(qualifiers: Vec<Qualifier>, marks: &[Mark]) -> Option<(Items<Qualifier>, &[Mark])>
     ensures { FindsWith (read.block_end qualifiers.items marks.now) result }
 {
-    let rest = behind_sign(b'}', marks)?;
-    Some((Items::from_vec(qualifiers), rest))
+    match behind_sign(b'}', marks) {
+        None => None,
+        Some(rest) => Some((Items::from_vec(qualifiers), rest)),
+    }
 }
 
 /// The qualifiers of the ending, if the marks are one. It looks no further than the next `{` that stands outside

@@ -4,10 +4,10 @@ ghost use Rattle.std.specs.Option.{option_copied};
 ghost use Rattle.clause_reader.specs.Results.{GivesWith};
 ghost use Rattle.obo_clause.specs.Reading as read;
 
-use crate::marks::{Class, behind_blanks, split_run, text_of, trim_end};
+use crate::marks::{Class, behind_blanks, split_run, text_if_any, text_of, trim_end};
 use crate::runs::{behind_sign, end_of_quotes};
 use obo_clause::{LineFault, Mark, SyntaxKind, Xref};
-use rel_io::{Bytes, Items, NoMemory};
+use rel_io::{Items, NoMemory};
 use std::alloc::Global;
 
 /// An entry of a list and what stands behind it.
@@ -70,19 +70,9 @@ fn push_xref(
         return Ok(());
     }
     let id = text_of(alloc, entry)?;
-    let label = label_of(alloc, label)?;
+    let label = text_if_any(alloc, label)?;
     xrefs.push(Xref { id, label })?;
     Ok(())
-}
-
-/// What a label is read as.
-fn label_of(alloc: Global, label: Option<&[Mark]>) -> Result<Option<Bytes>, NoMemory>
-    ensures { IfOk result (λ text. text ≡ read.text_read (option_copied label.entry)) }
-{
-    match label {
-        None => Ok(None),
-        Some(label) => Ok(Some(text_of(alloc, label)?)),
-    }
 }
 
 /// The xrefs of a list from behind its `[` on, and what stands behind the list.
@@ -107,8 +97,10 @@ fn xrefs_in(alloc: Global, marks: &[Mark]) -> Result<(Items<Xref>, &[Mark]), Lin
 fn list_end(xrefs: Vec<Xref>, marks: &[Mark]) -> Result<(Items<Xref>, &[Mark]), LineFault>
     ensures { GivesWith (read.list_end xrefs.items marks.now) result }
 {
-    let rest = behind_sign(b']', marks).ok_or(SyntaxKind::XrefList)?;
-    Ok((Items::from_vec(xrefs), rest))
+    match behind_sign(b']', marks) {
+        None => Err(LineFault::Syntax(SyntaxKind::XrefList)),
+        Some(rest) => Ok((Items::from_vec(xrefs), rest)),
+    }
 }
 
 /// The list behind blanks, if there is one, and the rest. An absent list is an empty one.

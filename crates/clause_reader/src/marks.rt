@@ -1,9 +1,10 @@
 //! The marks that the value of a clause is made of, and runs of them.
 ghost use Rattle.std.specs.Prelude.{◌≡◌, ◌+◌, ◌<◌, ◌≤◌, ◌∷◌, IfOk, drop, length};
 ghost use Rattle.std.specs.List.{prefix_len};
+ghost use Rattle.std.specs.Option.{option_copied};
 ghost use Rattle.obo_clause.specs.Marks as spec;
 ghost use Rattle.clause_reader.specs.Classes.{in_class};
-ghost use Rattle.obo_clause.specs.Reading.{behind, behind_blanks, front, is_sign, trim_end};
+ghost use Rattle.obo_clause.specs.Reading.{behind, behind_blanks, front, is_sign, text_read, trim_end};
 ghost use Rattle.obo_clause.specs.Vocabulary.{is_space};
 
 use crate::bytes::{ends_key, ends_word, is_blank};
@@ -12,7 +13,7 @@ use rel_io::{Bytes, NoMemory};
 use std::alloc::Global;
 
 /// The marks that stand together in one part of a clause.
-#[derive(Clone, Copy, Debug, PartialEq, Eq)]
+#[derive(Clone, Copy, PartialEq, Eq)]
 pub enum Class {
     /// Spaces and tabs.
     Space,
@@ -88,6 +89,16 @@ pub fn text_of(alloc: Global, marks: &[Mark]) -> Result<Bytes, NoMemory>
 {
     let bytes: Vec<u8> = marks.iter().map(|mark| mark.byte).collect(alloc)?;
     Ok(Bytes::from_vec(bytes))
+}
+
+/// What the marks of a part that may be absent are read as.
+pub fn text_if_any(alloc: Global, marks: Option<&[Mark]>) -> Result<Option<Bytes>, NoMemory>
+    ensures { IfOk result (λ text. text ≡ text_read (option_copied marks.entry)) }
+{
+    match marks {
+        None => Ok(None),
+        Some(marks) => Ok(Some(text_of(alloc, marks)?)),
+    }
 }
 
 /// Whether the mark is this byte, standing by itself.

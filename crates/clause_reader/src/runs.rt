@@ -70,8 +70,10 @@ pub fn quoted_at(marks: &[Mark]) -> Result<(&[Mark], &[Mark]), SyntaxKind>
         (λ text. read.quoted_at marks.now ≡ Ok (text.0.now, text.1.now))
         (λ one. read.quoted_at marks.now ≡ Err one) }
 {
-    let inside = behind_sign(b'"', behind_blanks(marks)).ok_or(SyntaxKind::NoQuote)?;
-    end_of_quotes(inside)
+    match behind_sign(b'"', behind_blanks(marks)) {
+        None => Err(SyntaxKind::NoQuote),
+        Some(inside) => end_of_quotes(inside),
+    }
 }
 
 /// The inside of a quoted text, from behind its first `"` on, and the rest.

@@ -2,6 +2,7 @@
 ghost use Rattle.std.specs.Prelude.{◌≡◌, IfOk};
 ghost use Rattle.std.specs.Option.{option_copied};
 ghost use Rattle.clause_reader.specs.Results.{GivesWith};
+ghost use Rattle.obo_clause.specs.Reading.{text_read};
 ghost use Rattle.obo_clause.specs.ReadingLines as read;
 
 use crate::bytes::is_word;
@@ -32,12 +33,12 @@ fn scope_of(word: &Bytes) -> Option<Scope>
 }
 
 /// What stands between the text of a synonym and its list.
-#[derive(Drop)]
+#[derive(Clone, Copy)]
 pub struct Scoped<'a> {
     /// The scope that is written, or `Related`.
     pub scope: Scope,
     /// The type, if one is written.
-    pub kind: Option<Bytes>,
+    pub kind: Option<&'a [Mark]>,
     /// What stands behind both.
     pub rest: &'a [Mark],
 }
@@ -45,7 +46,7 @@ pub struct Scoped<'a> {
 /// The scope and the type behind the text of a synonym. A first word that is no scope is the type.
 #[tactic(auto, unfolding(obo_clause::specs::ReadingLines::scoped_at))]
 pub fn scoped_at(alloc: Global, marks: &[Mark]) -> Result<Scoped<'_>, NoMemory>
-    ensures { IfOk result (λ found. (found.scope, found.kind, found.rest.now) ≡ read.scoped_at marks.now) }
+    ensures { IfOk result (λ found. (found.scope, text_read (option_copied found.kind), found.rest.now) ≡ read.scoped_at marks.now) }
 {
     let Some((word, rest)) = word_at(marks) else {
         return Ok(Scoped {
@@ -54,32 +55,32 @@ pub fn scoped_at(alloc: Global, marks: &[Mark]) -> Result<Scoped<'_>, NoMemory>
             rest: marks,
         });
     };
-    let word = text_of(alloc, word)?;
-    match scope_of(&word) {
+    let scope = scope_of(&text_of(alloc, word)?);
+    match scope {
         None => Ok(Scoped {
             scope: Scope::Related,
             kind: Some(word),
             rest,
         }),
-        Some(scope) => type_behind(alloc, scope, rest),
+        Some(scope) => Ok(type_behind(scope, rest)),
     }
 }
 
 /// The type behind a scope, if there is one.
-fn type_behind(alloc: Global, scope: Scope, marks: &[Mark]) -> Result<Scoped<'_>, NoMemory>
-    ensures { IfOk result (λ found. (found.scope, found.kind, found.rest.now) ≡ read.type_behind scope marks.now) }
+fn type_behind(scope: Scope, marks: &[Mark]) -> Scoped<'_>
+    ensures { (result.scope, text_read (option_copied result.kind), result.rest.now) ≡ read.type_behind scope marks.now }
 {
     match word_at(marks) {
-        None => Ok(Scoped {
+        None => Scoped {
             scope,
             kind: None,
             rest: marks,
-        }),
-        Some((kind, rest)) => Ok(Scoped {
+        },
+        Some((kind, rest)) => Scoped {
             scope,
-            kind: Some(text_of(alloc, kind)?),
+            kind: Some(kind),
             rest,
-        }),
+        },
     }
 }
 
@@ -101,6 +102,9 @@ pub fn type_scope_at(alloc: Global, marks: &[Mark]) -> Result<(Option<Scope>, &[
     let Some((word, rest)) = word_at(marks) else {
         return Ok((None, marks));
     };
-    let scope = scope_of(&text_of(alloc, word)?).ok_or(SyntaxKind::Trailing)?;
-    Ok((Some(scope), rest))
+    let scope = scope_of(&text_of(alloc, word)?);
+    match scope {
+        None => Err(LineFault::Syntax(SyntaxKind::Trailing)),
+        Some(scope) => Ok((Some(scope), rest)),
+    }
 }

@@ -11,7 +11,7 @@ ghost use Rattle.obo_clause.specs.ReadingLines as read;
 use crate::blocks::{FreeRun, end_at, free_run};
 use crate::bytes::{behind_blank_bytes, is_word, without_last_blanks};
 use crate::lists::list_at;
-use crate::marks::{behind_blanks, marks_of, text_of, trim_end};
+use crate::marks::{behind_blanks, marks_of, text_if_any, text_of, trim_end};
 use crate::runs::{behind_sign, quoted_at, want_word, word_at};
 use crate::scopes::{may_have_word, scoped_at, type_scope_at};
 use obo_clause::{Content, LineFault, Mark, Qualifier, SyntaxKind, Value, Xref};
@@ -105,9 +105,16 @@ fn read_text(alloc: Global, marks: &[Mark]) -> Result<Content, LineFault>
         qualifiers,
         ..
     } = free_run(alloc, false, behind_blanks(marks))?;
-    let qualifiers = qualifiers.ok_or(SyntaxKind::Trailing)?;
-    let value = Value::Text(text_of(alloc, trim_end(run))?);
-    Ok(Content { value, qualifiers })
+    match qualifiers {
+        None => Err(LineFault::Syntax(SyntaxKind::Trailing)),
+        Some(qualifiers) => {
+            let text = text_of(alloc, trim_end(run))?;
+            Ok(Content {
+                value: Value::Text(text),
+                qualifiers,
+            })
+        }
+    }
 }
 
 /// One word.
@@ -201,12 +208,13 @@ fn read_synonym(alloc: Global, marks: &[Mark]) -> Result<Content, LineFault>
     let (text, rest) = quoted_at(marks)?;
     let scoped = scoped_at(alloc, rest)?;
     let (xrefs, rest) = list_at(alloc, scoped.rest)?;
+    let kind = text_if_any(alloc, scoped.kind)?;
     let (text, qualifiers) = text_to_end(alloc, text, rest)?;
     Ok(Content {
         value: Value::Synonym {
             text,
             scope: scoped.scope,
-            kind: scoped.kind,
+            kind,
             xrefs,
         },
         qualifiers,
@@ -224,6 +232,7 @@ fn read_xref(alloc: Global, marks: &[Mark]) -> Result<Content, LineFault>
         qualifiers,
     } = free_run(alloc, true, behind_blanks(marks))?;
     if run.is_empty() {
+        drop(qualifiers);
         return Err(LineFault::Syntax(SyntaxKind::NoValue));
     }
     let id = trim_end(run);
