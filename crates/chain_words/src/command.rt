@@ -3,7 +3,7 @@ use rel_io::{Bytes, Dup, Items, NoMemory};
 use std::alloc::Global;
 
 /// How `extract` chooses the module (Cuenca Grau et al. 2008).
-#[derive(Clone, Copy, Debug, PartialEq, Eq, Hash)]
+#[derive(Clone, Copy, Debug, PartialEq, Eq)]
 pub enum Method {
     /// By bottom locality.
     Bot,
@@ -14,7 +14,7 @@ pub enum Method {
 }
 
 /// How an output is written.
-#[derive(Clone, Copy, Debug, PartialEq, Eq, Hash)]
+#[derive(Clone, Copy, Debug, PartialEq, Eq)]
 pub enum Format {
     /// OBO Flat File Format 1.4.
     Obo,
@@ -23,7 +23,7 @@ pub enum Format {
 }
 
 /// A file that a step writes.
-#[derive(Debug, PartialEq, Eq, Drop)]
+#[derive(PartialEq, Eq, Drop)]
 pub struct Output {
     /// The name of the file.
     pub name: Bytes,
@@ -57,7 +57,7 @@ pub enum Step {
 }
 
 /// A chain of steps on one ontology.
-#[derive(Debug, PartialEq, Eq, Drop)]
+#[derive(PartialEq, Eq, Drop)]
 pub struct Chain {
     /// The inputs that are merged, in the order of the words and as often as they stand there.
     pub inputs: Items<Bytes>,
@@ -70,7 +70,7 @@ pub struct Chain {
 }
 
 /// What the words ask for.
-#[derive(Debug, PartialEq, Eq, Drop)]
+#[derive(PartialEq, Eq, Drop)]
 pub enum Command {
     /// To run a chain.
     Run(Chain),

@@ -14,7 +14,7 @@ use crate::phrase::{Phrase, Setting, setting_of};
 use crate::step::ended;
 use crate::table::{CommandWord, OptionWord, Rule, command_of, rule_of};
 use crate::{Chain, Command, WordFault, WordKind};
-use rel_io::{Bytes, Items};
+use rel_io::{Bytes, Items, NoMemory};
 use std::alloc::Global;
 
 /// The most commands that a chain has, `merge` among them.
@@ -106,17 +106,23 @@ fn with_setting(draft: Draft, setting: Setting) -> Result<Draft, WordFault>
         at,
         settings,
     } = phrase;
-    let settings = pushed(settings, setting)?;
-    Ok(Draft {
-        chain,
-        earlier,
-        phrase: Phrase {
-            command,
-            at,
-            settings,
-        },
-        asked: None,
-    })
+    match pushed(settings, setting) {
+        Ok(settings) => Ok(Draft {
+            chain,
+            earlier,
+            phrase: Phrase {
+                command,
+                at,
+                settings,
+            },
+            asked: None,
+        }),
+        Err(NoMemory) => {
+            drop(chain);
+            drop(earlier);
+            Err(WordFault::NoMemory)
+        }
+    }
 }
 
 /// What is wrong with a step of this command behind so many later steps.

@@ -8,7 +8,7 @@ use std::error::Error;
 use std::fmt;
 
 /// What is wrong with a word.
-#[derive(Clone, Copy, Debug, PartialEq, Eq, Hash)]
+#[derive(Clone, Copy, Debug, PartialEq, Eq)]
 pub enum WordKind {
     /// There are more than 1,024 words, or a 65th command begins.
     TooMany,
@@ -35,7 +35,7 @@ pub enum WordKind {
 }
 
 /// Why there is no command: the bad word that comes first, or want of memory.
-#[derive(Clone, Copy, Debug, PartialEq, Eq, Hash)]
+#[derive(Clone, Copy, Debug, PartialEq, Eq)]
 pub enum WordFault {
     /// A word is wrong.
     BadWord {

@@ -168,8 +168,14 @@ fn joined(
         let begun = merged(alloc, settings, output)?;
         return Ok(begun);
     }
-    let step = step_of(alloc, phrase.command, settings)?;
-    followed(chain, step, output, phrase.at)
+    match step_of(alloc, phrase.command, settings) {
+        Ok(step) => followed(chain, step, output, phrase.at),
+        Err(NoMemory) => {
+            drop(chain);
+            drop(output);
+            Err(WordFault::NoMemory)
+        }
+    }
 }
 
 /// Ends a step: a required option may be missing, and then an output may have no format.
@@ -183,6 +189,11 @@ pub fn ended(alloc: Global, chain: Chain, phrase: &Phrase) -> Result<Chain, Word
             kind: WordKind::MissingOption,
         });
     }
-    let output = output_of(alloc, phrase.settings.as_slice())?;
-    joined(alloc, chain, phrase, output)
+    match output_of(alloc, phrase.settings.as_slice()) {
+        Ok(output) => joined(alloc, chain, phrase, output),
+        Err(fault) => {
+            drop(chain);
+            Err(fault)
+        }
+    }
 }
