@@ -3,6 +3,7 @@ pub mod ListLemmas
 pub mod PhraseLemmas
 pub mod NumberLemmas
 pub mod ScanLemmas
+pub mod ReadLemmas
 pub mod Names
 pub mod Apart
 pub mod Same

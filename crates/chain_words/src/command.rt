@@ -122,15 +122,25 @@ impl Dup for Step {
 impl Dup for Chain {
     fn copy(&self, alloc: Global) -> Result<Chain, NoMemory> {
         let inputs = self.inputs.copy(alloc)?;
-        let steps = self.steps.copy(alloc)?;
-        let catalog = self.catalog.copy(alloc)?;
-        let first = self.first.copy(alloc)?;
-        Ok(Chain {
-            inputs,
-            catalog,
-            first,
-            steps,
-        })
+        match (
+            self.catalog.copy(alloc),
+            self.first.copy(alloc),
+            self.steps.copy(alloc),
+        ) {
+            (Ok(catalog), Ok(first), Ok(steps)) => Ok(Chain {
+                inputs,
+                catalog,
+                first,
+                steps,
+            }),
+            (catalog, first, steps) => {
+                drop(inputs);
+                drop(catalog);
+                drop(first);
+                drop(steps);
+                Err(NoMemory)
+            }
+        }
     }
 }
 

@@ -75,8 +75,13 @@ fn at_value(
 ) -> Result<Draft, WordFault>
     ensures { Answers (at_value draft option at word.now) result }
 {
-    let setting = setting_at(alloc, option, at, word)?;
-    with_setting(draft, setting)
+    match setting_at(alloc, option, at, word) {
+        Ok(setting) => with_setting(draft, setting),
+        Err(fault) => {
+            drop(draft);
+            Err(fault)
+        }
+    }
 }
 
 /// The setting that this word gives to an option, whatever the draft.
@@ -180,9 +185,19 @@ fn at_command(
         phrase,
         asked: _,
     } = draft;
-    let chain = ended(alloc, chain, &phrase)?;
-    let earlier = joined(earlier, phrase.settings)?;
-    begun(alloc, earlier, command, at, chain)
+    let ended = ended(alloc, chain, &phrase);
+    let joined = joined(earlier, phrase.settings);
+    match (ended, joined) {
+        (Ok(chain), Ok(earlier)) => begun(alloc, earlier, command, at, chain),
+        (Ok(chain), Err(NoMemory)) => {
+            drop(chain);
+            Err(WordFault::NoMemory)
+        }
+        (Err(fault), joined) => {
+            drop(joined);
+            Err(fault)
+        }
+    }
 }
 
 /// A word that stands for an option, else for a command.
@@ -238,7 +253,17 @@ pub fn at_end(alloc: Global, draft: Draft) -> Result<Command, WordFault>
         phrase,
         asked: _,
     } = draft;
-    let chain = ended(alloc, chain, &phrase)?;
-    let settings = joined(earlier, phrase.settings)?;
-    tested(chain, settings.as_slice())
+    let ended = ended(alloc, chain, &phrase);
+    let joined = joined(earlier, phrase.settings);
+    match (ended, joined) {
+        (Ok(chain), Ok(settings)) => tested(chain, settings.as_slice()),
+        (Ok(chain), Err(NoMemory)) => {
+            drop(chain);
+            Err(WordFault::NoMemory)
+        }
+        (Err(fault), joined) => {
+            drop(joined);
+            Err(fault)
+        }
+    }
 }

@@ -64,7 +64,6 @@ pub fn value_of(
 }
 
 /// Copies of all values of an option, in order.
-#[tactic(auto, using(crate::proofs::PhraseLemmas::values_next, crate::proofs::PhraseLemmas::values_skip))]
 pub fn values_of(
     alloc: Global,
     option: OptionWord,

@@ -107,14 +107,22 @@ fn step_of(
 fn merged(alloc: Global, settings: &[Setting], output: Option<Output>) -> Result<Chain, NoMemory>
     ensures { IfOk result (λ chain. chain ≡ merged settings.now output) }
 {
-    let inputs = values_of(alloc, OptionWord::Input, settings)?;
-    let catalog = value_of(alloc, OptionWord::Catalog, settings)?;
-    Ok(Chain {
-        inputs,
-        catalog,
-        first: output,
-        steps: Items::from_vec(Vec::new(alloc)),
-    })
+    let inputs = values_of(alloc, OptionWord::Input, settings);
+    let catalog = value_of(alloc, OptionWord::Catalog, settings);
+    match (inputs, catalog) {
+        (Ok(inputs), Ok(catalog)) => Ok(Chain {
+            inputs,
+            catalog,
+            first: output,
+            steps: Items::from_vec(Vec::new(alloc)),
+        }),
+        (inputs, catalog) => {
+            drop(inputs);
+            drop(catalog);
+            drop(output);
+            Err(NoMemory)
+        }
+    }
 }
 
 /// The chain with a later step.
@@ -142,13 +150,20 @@ fn followed(
                 first,
                 steps,
             } = chain;
-            let steps = pushed(steps, (step, output))?;
-            Ok(Chain {
-                inputs,
-                catalog,
-                first,
-                steps,
-            })
+            match pushed(steps, (step, output)) {
+                Ok(steps) => Ok(Chain {
+                    inputs,
+                    catalog,
+                    first,
+                    steps,
+                }),
+                Err(NoMemory) => {
+                    drop(inputs);
+                    drop(catalog);
+                    drop(first);
+                    Err(WordFault::NoMemory)
+                }
+            }
         }
     }
 }
