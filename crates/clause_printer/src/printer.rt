@@ -28,7 +28,8 @@ pub fn print_clause(alloc: Global, clause: &Clause, out: &mut Vec<u8>) -> Result
 pub fn clause_text(alloc: Global, clause: &Clause) -> Result<Vec<u8>, NoMemory>
     ensures { IfOk result (λ line. line.items ≡ spec.clause_text clause.now) }
 {
-    let value = value_text(alloc, &clause.value)?;
+    let mut value = Vec::new(alloc);
+    push_value(&mut value, &clause.value)?;
     let block = block_text(alloc, clause.qualifiers.as_slice())?;
     let mut line = Vec::from_slice(alloc, clause.tag.as_slice())?;
     line.push(b':')?;
@@ -48,35 +49,41 @@ fn push_behind_space(out: &mut Vec<u8>, text: &[u8]) -> Result<(), NoMemory>
     Ok(())
 }
 
-/// What is printed of a value.
-fn value_text(alloc: Global, value: &Value) -> Result<Vec<u8>, NoMemory>
-    ensures { IfOk result (λ text. text.items ≡ spec.value_text value.now) }
+/// Appends a text as it stands.
+fn push_text(out: &mut Vec<u8>, text: &[u8]) -> Result<(), NoMemory>
+    ensures { OnOk result (out.new.items ≡ out.old.items ++ text.now) }
 {
-    let mut out = Vec::new(alloc);
+    out.extend_from_slice(text)?;
+    Ok(())
+}
+
+/// Appends what is printed of a value.
+fn push_value(out: &mut Vec<u8>, value: &Value) -> Result<(), NoMemory>
+    ensures { OnOk result (out.new.items ≡ out.old.items ++ spec.value_text value.now) }
+{
     match value {
-        Value::Text(text) => push_run(&mut out, text.as_slice())?,
-        Value::Id(word) => push_word(&mut out, word.as_slice())?,
-        Value::Pair(first, second) => push_pair(&mut out, first, second)?,
-        Value::Bool(truth) => push_bool(&mut out, *truth)?,
-        Value::Def { text, xrefs } => push_def(&mut out, text, xrefs)?,
+        Value::Text(text) => push_run(out, text.as_slice()),
+        Value::Id(word) => push_word(out, word.as_slice()),
+        Value::Pair(first, second) => push_pair(out, first, second),
+        Value::Bool(truth) => push_bool(out, *truth),
+        Value::Def { text, xrefs } => push_def(out, text, xrefs),
         Value::Synonym {
             text,
             scope,
             kind,
             xrefs,
-        } => push_synonym(&mut out, text, *scope, kind, xrefs)?,
-        Value::XrefValue(xref) => push_xref(&mut out, xref)?,
+        } => push_synonym(out, text, *scope, kind, xrefs),
+        Value::XrefValue(xref) => push_xref(out, xref),
         Value::Literal {
             relation,
             text,
             datatype,
-        } => push_literal(&mut out, relation, text, datatype)?,
-        Value::Link { relation, target } => push_pair(&mut out, relation, target)?,
-        Value::SubsetDef { id, text } => push_described(&mut out, id, text)?,
-        Value::SynonymDef { id, text, scope } => push_synonym_def(&mut out, id, text, *scope)?,
-        Value::Raw(text) => out.extend_from_slice(text.as_slice())?,
+        } => push_literal(out, relation, text, datatype),
+        Value::Link { relation, target } => push_pair(out, relation, target),
+        Value::SubsetDef { id, text } => push_described(out, id, text),
+        Value::SynonymDef { id, text, scope } => push_synonym_def(out, id, text, *scope),
+        Value::Raw(text) => push_text(out, text.as_slice()),
     }
-    Ok(out)
 }
 
 /// Appends two words.
@@ -94,11 +101,10 @@ fn push_bool(out: &mut Vec<u8>, truth: bool) -> Result<(), NoMemory>
     ensures { OnOk result (out.new.items ≡ out.old.items ++ bool_word truth) }
 {
     if truth {
-        out.extend_from_slice(b"true")?;
+        push_text(out, b"true")
     } else {
-        out.extend_from_slice(b"false")?;
+        push_text(out, b"false")
     }
-    Ok(())
 }
 
 /// Appends a definition.
@@ -134,12 +140,11 @@ fn push_scope(out: &mut Vec<u8>, scope: Scope) -> Result<(), NoMemory>
     ensures { OnOk result (out.new.items ≡ out.old.items ++ (spec.space ++ scope_word scope)) }
 {
     match scope {
-        Scope::Exact => out.extend_from_slice(b" EXACT")?,
-        Scope::Broad => out.extend_from_slice(b" BROAD")?,
-        Scope::Narrow => out.extend_from_slice(b" NARROW")?,
-        Scope::Related => out.extend_from_slice(b" RELATED")?,
+        Scope::Exact => push_text(out, b" EXACT"),
+        Scope::Broad => push_text(out, b" BROAD"),
+        Scope::Narrow => push_text(out, b" NARROW"),
+        Scope::Related => push_text(out, b" RELATED"),
     }
-    Ok(())
 }
 
 /// Appends a space and the type of a synonym, if it has one.

@@ -254,12 +254,14 @@ fn parts_of(fault: &Fault) -> (&'static [u8], Option<&Bytes>, Option<u64>) {
     }
 }
 
-/// The file `a.obo`, and what reading it up to a limit of five bytes gives, three bytes at a time. The open is call 0; of
-/// seven bytes the second piece goes past the limit, so call 3, which would fail, is not made.
+/// The call that fails, from 0, and the file `a.obo`; and what reading it up to a limit of five bytes gives, three bytes at
+/// a time. The open is call 0; of more bytes than five the second piece goes past the limit, so call 3 is not made.
 const LIMITED: &str = "\
-1234567 => TooManyBytes
-123456 => TooManyBytes
-12345 => ReadFault";
+4 12345 => 12345
+3 12345 => ReadFault
+3 123456 => TooManyBytes
+3 1234567 => TooManyBytes
+0 1 => ReadFault";
 
 #[test]
 fn a_file_is_read_up_to_its_limit(rt: HostRuntime) -> Result<(), Fail> {
@@ -268,11 +270,12 @@ fn a_file_is_read_up_to_its_limit(rt: HostRuntime) -> Result<(), Fail> {
     Ok(())
 }
 
-/// What reading a file up to five bytes gives.
-fn read_limited(alloc: Global, file: &str) -> Result<Vec<u8>, NoMemory> {
+/// What reading a file up to five bytes gives, where one call fails.
+fn read_limited(alloc: Global, input: &str) -> Result<Vec<u8>, NoMemory> {
+    let (call, file) = input.split_once(' ').unwrap_or((input, ""));
     let file = Bytes::from_vec(bytes_of(alloc, file)?);
     let name = Bytes::from_slice(alloc, b"a.obo")?;
-    let mut folder = folder_of(alloc, file, 3, &[3])?;
+    let mut folder = folder_of(alloc, file, 3, &[call.parse::<u64>().unwrap_or(0)])?;
     match read_file(alloc, &mut folder, &name, 5) {
         Ok(bytes) => Ok(bytes.into_vec()),
         Err(fault) => Ok(format!(in alloc; "{fault:?}")?.into_bytes()),
