@@ -2,12 +2,10 @@
 //! sinks, calls `release`, and ends with its status.
 #![tactic(auto)]
 
-mod disk;
-mod standard;
+ghost use Rattle.std.specs.Prelude.{◌≢◌};
 
-use disk::DiskFolder;
+use rel_os::{DiskFolder, StdSink};
 use release_chain::release;
-use standard::StdSink;
 use std::alloc::Global;
 use std::env::{self, Env};
 use std::io::{self, ErrorKind};
@@ -39,12 +37,11 @@ fn words<R: Env + AllocGlobal>(rt: &R) -> io::Result<Vec<String>> {
 }
 
 /// How the program ends where it has no words: some word is no text, or memory ran out.
-fn status_without_words(error: io::Error) -> u8 {
+fn status_without_words(error: io::Error) -> u8
+    ensures { result ≢ 0 }
+{
     match error.kind() {
         ErrorKind::OutOfMemory => NO_MEMORY,
         _ => BAD_WORDS,
     }
 }
-
-#[cfg(test)]
-mod tests;

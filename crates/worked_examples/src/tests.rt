@@ -7,6 +7,7 @@ mod iris;
 mod lines;
 mod ontologies;
 mod printed;
+mod real_files;
 mod runs;
 mod tags;
 mod words;

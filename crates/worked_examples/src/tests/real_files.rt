@@ -1,13 +1,12 @@
-//! The program over real files, in the folder in which the test runs.
-use crate::disk::DiskFolder;
-use crate::standard::StdSink;
+//! Whole runs over real files, in the folder in which the test runs.
 use rel_io::{Folder, Got, Opened};
+use rel_os::{DiskFolder, StdSink};
 use release_chain::{Ended, release};
 use std::alloc::AllocError;
 use std::fs;
 use std::test::Fail;
 
-/// Runs the program's work with the words `merge --input INPUT convert --output OUTPUT`.
+/// Does what the program does with the words `merge --input INPUT convert --output OUTPUT`.
 fn run(rt: &HostRuntime, input: &str, output: &str) -> Result<Ended, AllocError> {
     let mut words = Vec::new(rt.alloc());
     for word in ["merge", "--input", input, "convert", "--output", output] {
