@@ -46,21 +46,23 @@ fn folder(alloc: Global, failing: u64) -> Result<MemFolder, NoMemory> {
 fn a_folder_in_memory_reads_until_it_fails(rt: HostRuntime) -> Result<(), Fail> {
     let mut folder = folder(rt.alloc(), 3)?;
     let mut buffer = [0u8; 3];
-    assert!(rt; folder.open_file(b"b") == Opened::Missing);
-    assert!(rt; folder.open_file(b"a") == Opened::Ready);
-    assert!(rt; folder.read(&mut buffer) == Got::Bytes(2));
-    assert!(rt; folder.read(&mut buffer) == Got::Failed);
+    let is_right = folder.open_file(b"b") == Opened::Missing
+        && folder.open_file(b"a") == Opened::Ready
+        && folder.read(&mut buffer) == Got::Bytes(2)
+        && folder.read(&mut buffer) == Got::Failed;
+    assert!(rt; is_right);
     Ok(())
 }
 
 #[test]
 fn a_folder_in_memory_keeps_what_is_put(rt: HostRuntime) -> Result<(), Fail> {
     let mut folder = folder(rt.alloc(), 1)?;
-    assert!(rt; folder.put(b"b", b"new") == Ok(()));
-    assert!(rt; folder.put(b"a", b"lost") == Err(PutFault::Failed));
-    assert!(rt; folder.put(b"b", b"newer") == Ok(()));
-    assert!(rt; folder.held(b"a") == Some(b"12345".as_slice()));
-    assert!(rt; folder.held(b"b") == Some(b"newer".as_slice()));
+    let is_right = folder.put(b"b", b"new") == Ok(())
+        && folder.put(b"a", b"lost") == Err(PutFault::Failed)
+        && folder.put(b"b", b"newer") == Ok(())
+        && folder.held(b"a") == Some(b"12345".as_slice())
+        && folder.held(b"b") == Some(b"newer".as_slice());
+    assert!(rt; is_right);
     Ok(())
 }
 
@@ -68,10 +70,11 @@ fn a_folder_in_memory_keeps_what_is_put(rt: HostRuntime) -> Result<(), Fail> {
 fn a_sink_in_memory_fails_where_it_is_told(rt: HostRuntime) -> Result<(), Fail> {
     let alloc = rt.alloc();
     let mut sink = MemSink::new(alloc, 4, Vec::from_slice(alloc, &[1])?)?;
-    assert!(rt; sink.write_all(b"ab") == Ok(()));
-    assert!(rt; sink.write_all(b"") == Err(SinkFailed));
-    assert!(rt; sink.write_all(b"cde") == Err(SinkFailed));
-    assert!(rt; sink.write_all(b"cd") == Ok(()));
-    assert!(rt; sink.bytes() == b"abcd".as_slice());
+    let is_right = sink.write_all(b"ab") == Ok(())
+        && sink.write_all(b"") == Err(SinkFailed)
+        && sink.write_all(b"cde") == Err(SinkFailed)
+        && sink.write_all(b"cd") == Ok(())
+        && sink.bytes() == b"abcd".as_slice();
+    assert!(rt; is_right);
     Ok(())
 }

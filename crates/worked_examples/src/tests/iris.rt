@@ -99,7 +99,11 @@ fn names_lead_iris(rt: HostRuntime) -> Result<(), Fail> {
 /// The IRI of `x` in an ontology of this name, and the id of that IRI.
 fn iri_of_x(alloc: Global, name: &str) -> Result<Vec<u8>, NoMemory> {
     let name = Bytes::from_vec(bytes_of(alloc, name)?);
-    let given = if name.as_slice().is_empty() { None } else { Some(&name) };
+    let given = if name.as_slice().is_empty() {
+        None
+    } else {
+        Some(&name)
+    };
     let ontology = name_or_temp(alloc, given)?;
     let id = Bytes::from_slice(alloc, b"x")?;
     shown(alloc, &id, &ontology)

@@ -1,6 +1,4 @@
 //! Clauses with the lines that are printed of them, worked out by hand.
-ghost use Rattle.std.specs.Prelude.{◌^◌, ◌<◌, length};
-
 use super::{bytes_of, wrong_in};
 use clause_printer::print_clause;
 use obo_frames::{Document, read_document};
@@ -113,15 +111,16 @@ fn all_lines(alloc: Global, document: &Document) -> Result<Vec<u8>, NoMemory> {
     Ok(out)
 }
 
-/// Appends the line of a clause, behind LF where it is not the first.
+/// Appends the line of the clause at a place, behind LF where it is not the first.
 fn push_line(
     alloc: Global,
     document: &Document,
     at: usize,
     out: &mut Vec<u8>,
-) -> Result<(), NoMemory>
-    requires { at < length document.now }
-{
+) -> Result<(), NoMemory> {
+    if at >= document.len() {
+        return Ok(());
+    }
     if !out.is_empty() {
         out.push(b'\n')?;
     }

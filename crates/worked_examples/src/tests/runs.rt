@@ -160,7 +160,11 @@ fn ending_of(
     let mut folder = folder_of(alloc, file.copy(alloc)?, piece, failing)?;
     let ended = run(alloc, words, &mut folder)?;
     let is_sound = is_sound(alloc, &ended, &folder, &file)?;
-    let shown = if is_sound { shown(alloc, &ended, &folder) } else { Ok(Vec::new(alloc)) };
+    let shown = if is_sound {
+        shown(alloc, &ended, &folder)
+    } else {
+        Ok(Vec::new(alloc))
+    };
     drop(ended);
     shown
 }

@@ -68,12 +68,7 @@ const KINDS: [FrameKind; 4] = [
 ];
 
 /// Appends what a tag is in a frame.
-fn push_shown(
-    alloc: Global,
-    out: &mut Vec<u8>,
-    kind: FrameKind,
-    tag: Tag,
-) -> Result<(), NoMemory> {
+fn push_shown(alloc: Global, out: &mut Vec<u8>, kind: FrameKind, tag: Tag) -> Result<(), NoMemory> {
     let shape = shape(kind, Some(tag));
     if is_copied(alloc, &kind)? && is_copied(alloc, &tag)? && is_copied(alloc, &shape)? {
         let rank = rank(kind, tag);
