@@ -1,7 +1,8 @@
-use Rattle.std.proofs.Common.{codes, ◌∷◌, sym, ap, subst, ◌∙◌, ◌+◌, false}
+use Rattle.std.proofs.Common.{codes, ◌∷◌, arith, refl, sym, ap, subst, ◌∙◌, ◌+◌, false}
 use Rattle.std.specs.Option.{option_copied}
 use Rattle.std.proofs.lemmas.Bool.{false≢true}
-use Rattle.owl_ontology.specs.Ontology.{IsHeld, add_entry}
+use Rattle.std.proofs.lemmas.Result.{err_from_is_err_and}
+use Rattle.owl_ontology.specs.Ontology.{IsHeld, OntologyState, add_entry}
 use Rattle.iri_map.specs.Id.{is_canonical_id}
 use Rattle.term_frames.specs.Built.{begins_frame}
 use Rattle.term_frames.specs.Lines.{lines_of}
@@ -39,3 +40,31 @@ returns-clause-read c lines earlier frame line is_frame read =
     (subst (λ rest. Read c.args.space.now lines earlier c.args.ontology.now.entries frame c.args.number (line ∷ rest)) c.split_line.ensures.lines read)
     (sym c.id_in.ensures ∙ ap option_copied c.in-Some.is)
     (λ held. added.is_new.0 c.if-not-branch.false (subst (λ one. IsHeld one c.args.ontology.now.entries) (sym c.in_ok-one.ensures.exact) held)))
+
+pub add-requires : goal.add-requires
+add-requires c = c.in_ok-one.ensures.proper
+
+pub returns-in_err-one-clause-read : goal.returns-in_err-one-clause-read
+returns-in_err-one-clause-read c lines earlier frame line is_frame read =
+    let p = err_from_is_err_and c.from_residual.result c.from_residual.ensures.1 in
+    rw (p.1, p.2) tt
+
+pub returns-in_err-one-clause-name : goal.returns-in_err-one-clause-name
+returns-in_err-one-clause-name c = refl
+
+pub returns-in_err-add-clause-read : goal.returns-in_err-add-clause-read
+returns-in_err-add-clause-read c lines earlier frame line is_frame read =
+    let p = err_from_is_err_and c.from_residual-in_err-add.result c.from_residual-in_err-add.ensures.1 in
+    rw (p.1, p.2) tt
+
+pub returns-in_err-add-clause-name : goal.returns-in_err-add-clause-name
+returns-in_err-add-clause-name c = ap (λ (ontology : OntologyState). ontology.name) c.in_err-add.ensures.unchanged
+
+pub returns-then-not-branch-clause-name : goal.returns-then-not-branch-clause-name
+returns-then-not-branch-clause-name c = ap (λ (ontology : OntologyState). ontology.name) c.in_ok-add.ensures.entries
+
+pub returns-clause-name : goal.returns-clause-name
+returns-clause-name c = ap (λ (ontology : OntologyState). ontology.name) c.in_ok-add.ensures.entries
+
+pub returns-clause-shorter : goal.returns-clause-shorter
+returns-clause-shorter c = (omega (arith, c.split_line.ensures.shorter), c.split_line.ensures.shorter)
