@@ -52,11 +52,9 @@ pub fn is_frame_line(line: &[u8]) -> bool
 pub fn ontology_in(line: &[u8]) -> Option<&[u8]>
     ensures { option_copied result ≡ spec.ontology_in line.now }
 {
-    let name = line.strip_prefix(ONTOLOGY)?;
-    if is_ontology_name(name) {
-        Some(name)
-    } else {
-        None
+    match line.strip_prefix(ONTOLOGY) {
+        Some(name) if is_ontology_name(name) => Some(name),
+        _ => None,
     }
 }
 
@@ -65,8 +63,10 @@ pub fn ontology_in(line: &[u8]) -> Option<&[u8]>
 pub fn id_in(line: &[u8]) -> Option<&[u8]>
     ensures { option_copied result ≡ spec.id_in line.now }
 {
-    let id = line.strip_prefix(ID)?;
-    if is_canonical_id(id) { Some(id) } else { None }
+    match line.strip_prefix(ID) {
+        Some(id) if is_canonical_id(id) => Some(id),
+        _ => None,
+    }
 }
 
 /// The name in a line `name: NAME`.
@@ -74,8 +74,10 @@ pub fn id_in(line: &[u8]) -> Option<&[u8]>
 pub fn name_in(line: &[u8]) -> Option<&[u8]>
     ensures { option_copied result ≡ spec.name_in line.now }
 {
-    let name = line.strip_prefix(NAME)?;
-    if is_name(name) { Some(name) } else { None }
+    match line.strip_prefix(NAME) {
+        Some(name) if is_name(name) => Some(name),
+        _ => None,
+    }
 }
 
 /// The id in a line `is_a: ID`, behind which ` ! ` and any bytes may stand.
@@ -83,8 +85,10 @@ pub fn name_in(line: &[u8]) -> Option<&[u8]>
 pub fn parent_in(line: &[u8]) -> Option<&[u8]>
     ensures { option_copied result ≡ spec.parent_in line.now }
 {
-    let text = line.strip_prefix(IS_A)?;
-    target_of(text)
+    match line.strip_prefix(IS_A) {
+        Some(text) => target_of(text),
+        None => None,
+    }
 }
 
 /// An id alone, or one with ` ! ` and any bytes behind it.
