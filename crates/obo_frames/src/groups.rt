@@ -188,9 +188,9 @@ fn is_same(one: &Expression, other: &Expression) -> bool
     ensures { result ≡ spec.same_expression one.now other.now }
 {
     match (one, other) {
-        (Expression::Class(one), Expression::Class(other)) => one.as_slice() == other.as_slice(),
+        (Expression::Class(one), Expression::Class(other)) => one == other,
         (Expression::Restriction(role, filler), Expression::Restriction(other, another)) => {
-            role.as_slice() == other.as_slice() && filler.as_slice() == another.as_slice()
+            role == other && filler == another
         }
         _ => false,
     }

@@ -1,6 +1,6 @@
 use Rattle.std.proofs.Common.{◌≡◌, ◌+◌, ◌<◌, ◌++◌, ◌∷◌, [], ℕ, List, ap, sym, ◌∙◌, add-one, append_assoc, drop, drop-cons, get_or, length}
 use Rattle.std.specs.List.{cons_option}
-use Rattle.obo_frames.specs.Groups.{operand_in, operands_in}
+use Rattle.obo_frames.specs.Groups.{operands_in}
 use Rattle.obo_frames.specs.declared.placed.Placed.{Placed}
 use Rattle.obo_frames.proofs.groups.operands_in.Goals as goal
 use Rattle.obo_frames.proofs.groups.operands_in.Goals.{in-Some+in_ok-push, in_default}
