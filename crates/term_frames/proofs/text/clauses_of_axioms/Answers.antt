@@ -1,8 +1,14 @@
-use Rattle.std.proofs.Common.{◌++◌, ◌∷◌, [], ap, sym, ◌∙◌}
+use Rattle.std.proofs.Common.{◌<◌, ◌++◌, ◌∷◌, [], ap, subst, sym, ◌∙◌}
 use Rattle.owl_ontology.specs.Ontology.{axioms_of}
 use Rattle.term_frames.proofs.TextLemmas.{no_clause_more, one_clause_more}
 use Rattle.term_frames.proofs.text.clauses_of_axioms.Goals as goal
 use Rattle.term_frames.proofs.text.clauses_of_axioms.Goals.{in-Some+in_ok-push, in_default}
+
+pub loop-at-init : goal.loop-at-init
+loop-at-init c = c.new-clauses.ensures.items
+
+pub get-requires : goal.get-requires
+get-requires c = subst (λ end. c.loop-at.at < end) c.len-at-end.ensures.len c.loop-at-test.true
 
 pub loop-at-preserved : goal.loop-at-preserved
 loop-at-preserved c =
