@@ -1,5 +1,5 @@
 -- What is among the elements of a list, by recursion.
-use Rattle.std.proofs.Common.{◌≡◌, ◌⊎◌, inl, inr, Bool, true, false, List, [], ◌∷◌, ◌++◌, ap, arith, cond, map, refl, subst, sym, ⊎_elim, ◌∙◌}
+use Rattle.std.proofs.Common.{◌≡◌, ◌⊎◌, inl, inr, Bool, true, false, ℕ, ◌+◌, ◌<◌, List, [], ◌∷◌, ◌++◌, add-one, ap, arith, cond, drop, drop-cons, get_or, length, map, refl, subst, sym, ⊎_elim, ◌∙◌}
 use Rattle.std.specs.Prelude.{All, Contains, filter}
 use Rattle.std.proofs.lemmas.List.Elements.{All-cons, All-contains, All-nil, All-weaker, Contains-append_right}
 
@@ -67,3 +67,7 @@ pub among-append_cases : {X : Type 0} (xs ys : List X) (x : X) → Among x (xs +
 among-append_cases [] ys x among = inr among
 among-append_cases (y ∷ xs) ys x (inl here) = inl (inl here)
 among-append_cases (y ∷ xs) ys x (inr later) = ⊎_elim (λ first. inl (inr first)) (λ second. inr second) (among-append_cases xs ys x later)
+
+-- what is left begins with the item at this place
+pub left_is : {X : Type 0} (xs : List X) (at : ℕ) (x : X) → at < length xs → x ≡ get_or xs at x → drop at xs ≡ x ∷ drop (at + 1) xs
+left_is xs at x within is = drop-cons xs at x within ∙ (λ i. sym is i ∷ drop (sym (add-one at) i) xs)

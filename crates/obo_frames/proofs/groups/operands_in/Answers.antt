@@ -1,13 +1,9 @@
-use Rattle.std.proofs.Common.{◌≡◌, ◌+◌, ◌<◌, ◌++◌, ◌∷◌, [], ℕ, List, ap, sym, ◌∙◌, add-one, append_assoc, drop, drop-cons, get_or, length}
+use Rattle.std.proofs.Common.{◌+◌, ◌++◌, ◌∷◌, [], ap, sym, ◌∙◌, append_assoc, drop}
 use Rattle.std.specs.List.{cons_option}
 use Rattle.obo_frames.specs.Groups.{operands_in}
-use Rattle.obo_frames.specs.declared.placed.Placed.{Placed}
+use Rattle.obo_frames.proofs.ListLemmas.{left_is}
 use Rattle.obo_frames.proofs.groups.operands_in.Goals as goal
 use Rattle.obo_frames.proofs.groups.operands_in.Goals.{in-Some+in_ok-push, in_default}
-
--- what is left begins with the clause at this place
-left_is : (placed : List Placed) (at : ℕ) (one : Placed) → at < length placed → one ≡ get_or placed at one → drop at placed ≡ one ∷ drop (at + 1) placed
-left_is placed at one within is = drop-cons placed at one within ∙ (λ i. sym is i ∷ drop (sym (add-one at) i) placed)
 
 pub loop-one-preserved : goal.loop-one-preserved
 loop-one-preserved c =
