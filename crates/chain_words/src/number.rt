@@ -34,9 +34,8 @@ pub fn size_of(word: &[u8]) -> Option<u32>
     if leads_with_zero(word) {
         return None;
     }
-    let number = number_of(word)?;
-    if number < 10 {
-        return None;
+    match number_of(word) {
+        Some(number) if number >= 10 => Some(number),
+        _ => None,
     }
-    Some(number)
 }

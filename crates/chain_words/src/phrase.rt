@@ -85,16 +85,20 @@ pub fn values_of(
 pub fn method_of(settings: &[Setting]) -> Option<Method>
     ensures { result ≡ method_of settings.now }
 {
-    let setting = setting_of(OptionWord::Method, settings)?;
-    method(setting.value.as_slice())
+    match setting_of(OptionWord::Method, settings) {
+        None => None,
+        Some(setting) => method(setting.value.as_slice()),
+    }
 }
 
 /// The format that a step names.
 pub fn format_of(settings: &[Setting]) -> Option<Format>
     ensures { result ≡ format_of settings.now }
 {
-    let setting = setting_of(OptionWord::Format, settings)?;
-    format(setting.value.as_slice())
+    match setting_of(OptionWord::Format, settings) {
+        None => None,
+        Some(setting) => format(setting.value.as_slice()),
+    }
 }
 
 /// The truth value that a step gives to an option, or the default.
