@@ -10,7 +10,7 @@ use crate::bytes::{
     behind_blank_bytes, is_line_comment, is_tag, is_word, split_at_colon, without_last_blanks,
 };
 use crate::values::read_shape;
-use obo_clause::{Clause, Line, LineFault, SyntaxKind};
+use obo_clause::{Clause, Content, Line, LineFault, SyntaxKind};
 use obo_tags::{FrameKind, ValueShape, shape, tag_of};
 use rel_io::Bytes;
 use std::alloc::Global;
@@ -113,12 +113,17 @@ fn read_tagged(
 {
     let shape = shape_at(kind, first, tag);
     let tag = Bytes::from_slice(alloc, tag)?;
-    let read = read_shape(alloc, shape, bytes)?;
-    Ok(Line::Content(Clause {
-        tag,
-        value: read.value,
-        qualifiers: read.qualifiers,
-    }))
+    match read_shape(alloc, shape, bytes) {
+        Ok(Content { value, qualifiers }) => Ok(Line::Content(Clause {
+            tag,
+            value,
+            qualifiers,
+        })),
+        Err(fault) => {
+            drop(tag);
+            Err(fault)
+        }
+    }
 }
 
 /// The shape of the value behind the tag. An `id` that is not the first clause of its frame is foreign.

@@ -16,7 +16,7 @@ use crate::runs::{behind_sign, quoted_at, want_word, word_at};
 use crate::scopes::{may_have_word, scoped_at, type_scope_at};
 use obo_clause::{Content, LineFault, Mark, Qualifier, SyntaxKind, Value, Xref};
 use obo_tags::ValueShape;
-use rel_io::{Bytes, Items};
+use rel_io::{Bytes, Items, NoMemory};
 use std::alloc::Global;
 
 /// The datatype of a text that has none.
@@ -107,13 +107,16 @@ fn read_text(alloc: Global, marks: &[Mark]) -> Result<Content, LineFault>
     } = free_run(alloc, false, behind_blanks(marks))?;
     match qualifiers {
         None => Err(LineFault::Syntax(SyntaxKind::Trailing)),
-        Some(qualifiers) => {
-            let text = text_of(alloc, trim_end(run))?;
-            Ok(Content {
+        Some(qualifiers) => match text_of(alloc, trim_end(run)) {
+            Ok(text) => Ok(Content {
                 value: Value::Text(text),
                 qualifiers,
-            })
-        }
+            }),
+            Err(NoMemory) => {
+                drop(qualifiers);
+                Err(LineFault::NoMemory)
+            }
+        },
     }
 }
 
@@ -193,11 +196,16 @@ fn read_definition(alloc: Global, marks: &[Mark]) -> Result<Content, LineFault>
 {
     let (text, rest) = quoted_at(marks)?;
     let (xrefs, rest) = list_at(alloc, rest)?;
-    let (text, qualifiers) = text_to_end(alloc, text, rest)?;
-    Ok(Content {
-        value: Value::Def { text, xrefs },
-        qualifiers,
-    })
+    match text_to_end(alloc, text, rest) {
+        Ok((text, qualifiers)) => Ok(Content {
+            value: Value::Def { text, xrefs },
+            qualifiers,
+        }),
+        Err(fault) => {
+            drop(xrefs);
+            Err(fault)
+        }
+    }
 }
 
 /// A quoted text, its scope, its type and its dbxrefs.
@@ -209,16 +217,22 @@ fn read_synonym(alloc: Global, marks: &[Mark]) -> Result<Content, LineFault>
     let scoped = scoped_at(alloc, rest)?;
     let (xrefs, rest) = list_at(alloc, scoped.rest)?;
     let kind = text_if_any(alloc, scoped.kind)?;
-    let (text, qualifiers) = text_to_end(alloc, text, rest)?;
-    Ok(Content {
-        value: Value::Synonym {
-            text,
-            scope: scoped.scope,
-            kind,
-            xrefs,
-        },
-        qualifiers,
-    })
+    match text_to_end(alloc, text, rest) {
+        Ok((text, qualifiers)) => Ok(Content {
+            value: Value::Synonym {
+                text,
+                scope: scoped.scope,
+                kind,
+                xrefs,
+            },
+            qualifiers,
+        }),
+        Err(fault) => {
+            drop(xrefs);
+            drop(kind);
+            Err(fault)
+        }
+    }
 }
 
 /// A run of characters, and its label.
@@ -238,13 +252,16 @@ fn read_xref(alloc: Global, marks: &[Mark]) -> Result<Content, LineFault>
     let id = trim_end(run);
     match qualifiers {
         None => labelled(alloc, id, rest),
-        Some(qualifiers) => {
-            let id = text_of(alloc, id)?;
-            Ok(Content {
+        Some(qualifiers) => match text_of(alloc, id) {
+            Ok(id) => Ok(Content {
                 value: Value::XrefValue(Xref { id, label: None }),
                 qualifiers,
-            })
-        }
+            }),
+            Err(NoMemory) => {
+                drop(qualifiers);
+                Err(LineFault::NoMemory)
+            }
+        },
     }
 }
 
@@ -283,15 +300,20 @@ fn read_literal(alloc: Global, relation: &[Mark], marks: &[Mark]) -> Result<Cont
     let (text, rest) = quoted_at(marks)?;
     let (datatype, rest) = may_have_word(rest);
     let datatype = datatype_of(alloc, datatype)?;
-    let (relation, text, qualifiers) = texts_to_end(alloc, relation, text, rest)?;
-    Ok(Content {
-        value: Value::Literal {
-            relation,
-            text,
-            datatype,
-        },
-        qualifiers,
-    })
+    match texts_to_end(alloc, relation, text, rest) {
+        Ok((relation, text, qualifiers)) => Ok(Content {
+            value: Value::Literal {
+                relation,
+                text,
+                datatype,
+            },
+            qualifiers,
+        }),
+        Err(fault) => {
+            drop(datatype);
+            Err(fault)
+        }
+    }
 }
 
 /// The datatype that a word is, or that of a text that has none.
