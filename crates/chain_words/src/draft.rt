@@ -53,8 +53,9 @@ fn bad(index: u32, kind: WordKind) -> WordFault
 fn at_option(mut draft: Draft, rule: Rule, at: u32) -> Result<Draft, WordFault>
     ensures { Answers (at_option draft rule at) result }
 {
-    let is_given = setting_of(rule.option, draft.phrase.settings.as_slice()).is_some();
-    if rule.times.stands_once() && is_given {
+    let settings = draft.phrase.settings.as_slice();
+    let is_repeated = rule.times.stands_once() && setting_of(rule.option, settings).is_some();
+    if is_repeated {
         drop(draft);
         return Err(bad(at, WordKind::Repeated));
     }

@@ -74,10 +74,12 @@ fn output_of(alloc: Global, settings: &[Setting]) -> Result<Option<Output>, Word
 fn extraction(alloc: Global, settings: &[Setting]) -> Result<Option<Step>, NoMemory>
     ensures { IfOk result (λ step. step ≡ step_of CommandWord.Extract settings.now) }
 {
-    let given = value_of(alloc, OptionWord::TermFile, settings)?;
-    match (method_of(settings), given) {
-        (Some(method), Some(terms)) => Ok(Some(Step::Extract { method, terms })),
-        _ => Ok(None),
+    let Some(method) = method_of(settings) else {
+        return Ok(None);
+    };
+    match value_of(alloc, OptionWord::TermFile, settings)? {
+        None => Ok(None),
+        Some(terms) => Ok(Some(Step::Extract { method, terms })),
     }
 }
 
