@@ -81,8 +81,10 @@ fn later_name(bytes: &[u8]) -> Option<(FrameKind, &[u8])>
 fn instance_name(bytes: &[u8]) -> Option<(FrameKind, &[u8])>
     ensures { FindsBytes (read.instance_name bytes.now) result }
 {
-    let rest = bytes.strip_prefix(b"Instance]")?;
-    Some((FrameKind::Instance, rest))
+    match bytes.strip_prefix(b"Instance]") {
+        None => None,
+        Some(rest) => Some((FrameKind::Instance, rest)),
+    }
 }
 
 /// A clause line without the blanks at its beginning.
