@@ -1,0 +1,8 @@
+//! One module for each crate whose answers are compared.
+mod clauses;
+mod documents;
+mod iris;
+mod lines;
+mod printed;
+mod tables;
+mod tags;

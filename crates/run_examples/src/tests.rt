@@ -1,0 +1,6 @@
+//! One module for each crate whose answers are compared, and two for whole runs.
+mod ground;
+mod ontologies;
+mod real_files;
+mod runs;
+mod words;
