@@ -1,7 +1,7 @@
 //! Lines with what they say, or what is wrong with them, worked out by hand.
 use crate::{bytes_of, is_copied, push, wrong_in};
 use clause_reader::read_line;
-use obo_clause::{Clause, Line, LineFault, Qualifier, Scope, Value, Xref};
+use obo_clause::{Clause, Line, LineFault, Qualifier, Scope, SyntaxKind, Value, Xref};
 use obo_tags::FrameKind;
 use rel_io::{Bytes, NoMemory};
 use std::alloc::Global;
@@ -335,6 +335,13 @@ fn shown(alloc: Global, input: &str) -> Result<Vec<u8>, NoMemory> {
     let shown = show(alloc, &answer);
     drop(answer);
     shown
+}
+
+#[test]
+fn small_values_are_copied(rt: HostRuntime) -> Result<(), Fail> {
+    let scope = is_copied(rt.alloc(), &Scope::Exact)?;
+    assert!(rt; is_copied(rt.alloc(), &SyntaxKind::BadTag)? && scope);
+    Ok(())
 }
 
 /// The frame kind of a case.

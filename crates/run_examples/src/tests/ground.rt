@@ -1,53 +1,63 @@
-//! Copies of the types of the ground, and the outside in memory, each once.
+//! Copies of the types of the ground and of small types, and the outside in memory, each once.
+use crate::folder_of;
+use chain_words::{Format, Method};
 use document_examples::is_copied;
+use owl_axioms::Kind;
+use owl_ontology::Origin;
 use rel_io::{
-    Boxed, Bytes, Folder, Got, Iri, Items, MemFolder, MemSink, NoMemory, Opened, PutFault, Sink,
-    SinkFailed,
+    Boxed, Bytes, Folder, Got, Iri, Items, MemSink, NoMemory, Opened, PutFault, Sink, SinkFailed,
 };
 use std::alloc::Global;
 use std::test::Fail;
 
-fn bytes(alloc: Global, text: &str) -> Result<Bytes, NoMemory> {
-    Bytes::from_slice(alloc, text.as_bytes())
-}
-
-fn iri(alloc: Global, text: &str) -> Result<Iri, NoMemory> {
-    Iri::from_slice(alloc, text.as_bytes())
-}
-
-/// Two texts, one of them empty.
-fn two_texts(alloc: Global) -> Result<Items<Bytes>, NoMemory> {
-    let mut items = Vec::new(alloc);
-    items.push(bytes(alloc, "x")?)?;
-    items.push(bytes(alloc, "")?)?;
-    Ok(Items::from_vec(items))
-}
-
 #[test]
 fn copies_are_equal(rt: HostRuntime) -> Result<(), Fail> {
-    let alloc = rt.alloc();
-    assert!(rt; is_copied(alloc, &((1u8, 2u16, 3u32), (4u64, 5u128, 6usize)))?);
-    assert!(rt; is_copied(alloc, &((-1i8, -2i16, -3i32), (-4i64, -5i128, -6isize)))?);
-    assert!(rt; is_copied(alloc, &(true, iri(alloc, "http://a.b/c")?, Some(9u64)))?);
-    assert!(rt; is_copied(alloc, &Boxed::new(alloc, bytes(alloc, "a b")?)?)?);
-    assert!(rt; is_copied(alloc, &two_texts(alloc)?)?);
+    assert!(rt; numbers_are_copied(rt.alloc())?);
+    assert!(rt; texts_are_copied(rt.alloc())?);
+    assert!(rt; small_values_are_copied(rt.alloc())?);
     Ok(())
 }
 
-/// A folder with one file `a`, that reads two bytes at a time and fails at one call.
-fn folder(alloc: Global, failing: u64) -> Result<MemFolder, NoMemory> {
-    let mut files = Vec::new(alloc);
-    files.push((bytes(alloc, "a")?, bytes(alloc, "12345")?))?;
-    let failing = Vec::from_slice(alloc, &[failing])?;
-    Ok(MemFolder::new(alloc, files, 2, failing))
+/// Whether copies of numbers in pairs and triples are equal to them.
+fn numbers_are_copied(alloc: Global) -> Result<bool, NoMemory> {
+    Ok(
+        is_copied(alloc, &((1u8, 2u16, 3u32), (4u64, 5u128, 6usize)))?
+            && is_copied(alloc, &((-1i8, -2i16, -3i32), (-4i64, -5i128, -6isize)))?,
+    )
+}
+
+/// Whether copies of texts are equal to them, also behind a pointer and in a list.
+fn texts_are_copied(alloc: Global) -> Result<bool, NoMemory> {
+    let iri = Iri::from_slice(alloc, b"http://a.b/c")?;
+    let boxed = Boxed::new(alloc, Bytes::from_slice(alloc, b"a b")?)?;
+    let mut items = Vec::new(alloc);
+    items.push(Bytes::from_slice(alloc, b"x")?)?;
+    items.push(Bytes::from_slice(alloc, b"")?)?;
+    let items = Items::from_vec(items);
+    Ok(is_copied(alloc, &iri)? && is_copied(alloc, &boxed)? && is_copied(alloc, &items)?)
+}
+
+/// Whether copies of values of a few bytes are equal to them.
+fn small_values_are_copied(alloc: Global) -> Result<bool, NoMemory> {
+    let origin = Origin { file: 1, line: 2 };
+    Ok(
+        is_copied(alloc, &(true, Some(9u64)))?
+            && is_copied(alloc, &Method::Top)?
+            && is_copied(alloc, &Format::Ofn)?
+            && is_copied(alloc, &chain_words::WordKind::NoValue)?
+            && is_copied(alloc, &release_chain::WordKind::NoFormat)?
+            && is_copied(alloc, &Kind::Class)?
+            && is_copied(alloc, &origin)?,
+    )
 }
 
 #[test]
 fn a_folder_in_memory_reads_until_it_fails(rt: HostRuntime) -> Result<(), Fail> {
-    let mut folder = folder(rt.alloc(), 3)?;
+    let file = Bytes::from_slice(rt.alloc(), b"12345")?;
+    let mut folder = folder_of(rt.alloc(), file, 2, &[3])?;
     let mut buffer = [0u8; 3];
     let is_right = folder.open_file(b"b") == Opened::Missing
-        && folder.open_file(b"a") == Opened::Ready
+        && folder.open_file(b"a.obo") == Opened::Ready
         && folder.read(&mut buffer) == Got::Bytes(2)
         && folder.read(&mut buffer) == Got::Failed;
     assert!(rt; is_right);
@@ -56,11 +66,12 @@ fn a_folder_in_memory_reads_until_it_fails(rt: HostRuntime) -> Result<(), Fail> 
 
 #[test]
 fn a_folder_in_memory_keeps_what_is_put(rt: HostRuntime) -> Result<(), Fail> {
-    let mut folder = folder(rt.alloc(), 1)?;
+    let file = Bytes::from_slice(rt.alloc(), b"12345")?;
+    let mut folder = folder_of(rt.alloc(), file, 2, &[1])?;
     let is_right = folder.put(b"b", b"new") == Ok(())
-        && folder.put(b"a", b"lost") == Err(PutFault::Failed)
+        && folder.put(b"a.obo", b"lost") == Err(PutFault::Failed)
         && folder.put(b"b", b"newer") == Ok(())
-        && folder.held(b"a") == Some(b"12345".as_slice())
+        && folder.held(b"a.obo") == Some(b"12345".as_slice())
         && folder.held(b"b") == Some(b"newer".as_slice());
     assert!(rt; is_right);
     Ok(())
