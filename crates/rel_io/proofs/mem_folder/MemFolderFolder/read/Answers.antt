@@ -1,4 +1,4 @@
-use Rattle.std.proofs.Common.{◌≡◌, ◌==◌, ℕ, [], Some, None, length, nat_eq, false, true, ap, refl, sym, ◌∙◌, eq-eqb, arith}
+use Rattle.std.proofs.Common.{◌≡◌, ◌==◌, ℕ, [], Some, length, nat_eq, false, true, ap, refl, sym, ◌∙◌, eq-eqb, arith}
 use Rattle.std.proofs.lemmas.Grind.{common_steps}
 use Rattle.std.specs.List.{list_any}
 use Rattle.std.specs.Option.{unwrap_or}
@@ -6,6 +6,8 @@ use Rattle.rel_io.specs.FileList.{IsOpenAt, bytes_at}
 use Rattle.rel_io.specs.FolderState.{Position}
 use Rattle.rel_io.specs.MemFolder.{MemFolderState, fails, next_count, read_answer}
 use Rattle.rel_io.specs.declared.folder.Got.TheVariants as got
+use Rattle.rel_io.proofs.Counts.{rose}
+use Rattle.rel_io.proofs.Options.{none_there}
 use Rattle.rel_io.proofs.mem_folder.MemFolderFolder.read.Goals as goal
 
 -- a call that does not fail and gives no byte is at the file's end
@@ -21,11 +23,11 @@ returns-then-count-eq0-clause-answer c =
     rw (← c.self.view_is, c.unwrap-at.ensures, is_open.1, ← content) (grind (arith, common_steps, c.copy_front-count.ensures.count, c.if-count-eq0.true)))
 
 pub invariant_of-self : goal.invariant_of-self
-invariant_of-self c = (c.self.invariant.0, λ at none. absurd (let none' : None ≡ Some at = none in cc))
+invariant_of-self c = (c.self.invariant.0, λ _ none. absurd (none_there none))
 
 pub returns-then-failing-clause-reads : goal.returns-then-failing-clause-reads
 returns-then-failing-clause-reads c =
-    rw (← c.self.view_is) (record { closed = refl; counted = omega (arith, c.saturating_add-self-inside-then-failing.ensures) })
+    rw (← c.self.view_is) (record { closed = refl; counted = rose _ _ c.saturating_add-self-inside-then-failing.ensures })
 
 pub returns-then-failing-clause-holds : goal.returns-then-failing-clause-holds
 returns-then-failing-clause-holds c = ap (λ (m : MemFolderState). Some m.files) c.self.view_is
