@@ -11,7 +11,7 @@ use std::alloc::Global;
 const RETURN: u8 = b'\r';
 
 /// What a line says.
-#[derive(Debug, PartialEq, Eq, Drop)]
+#[derive(PartialEq, Eq, Drop)]
 pub enum LineBody {
     /// The bytes of a line that is UTF-8 and within the limit, with spaces for CRs and without the end.
     Text(Bytes),
@@ -22,7 +22,7 @@ pub enum LineBody {
 }
 
 /// One line of a file.
-#[derive(Debug, PartialEq, Eq, Drop)]
+#[derive(PartialEq, Eq, Drop)]
 pub struct LineItem {
     /// Counted from 1.
     pub number: u32,

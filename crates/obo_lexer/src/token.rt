@@ -19,7 +19,7 @@ pub enum TokenKind {
 }
 
 /// The bytes of a line from one place up to another, both counted from 0.
-#[derive(Clone, Copy, Debug, PartialEq, Eq)]
+#[derive(Clone, Copy, PartialEq, Eq)]
 pub struct Token {
     /// The place of its first byte.
     pub from: u32,
