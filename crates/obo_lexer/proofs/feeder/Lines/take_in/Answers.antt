@@ -2,6 +2,7 @@
 use Rattle.std.proofs.Common.{◌≡◌, ◌+◌, ◌∙◌, ◌++◌, [], ◌∷◌, ap, arith, length, length-drop, take}
 use Rattle.std.specs.List.{list_any}
 use Rattle.std.proofs.lemmas.List.{take_rest}
+use Rattle.std.proofs.lemmas.Result.{err_from_is_err_and}
 use Rattle.obo_lexer.specs.Feeding.{ended_with, fed_with}
 use Rattle.obo_lexer.specs.Held.{progress_of}
 use Rattle.obo_lexer.specs.Lines.{is_line_feed}
@@ -34,3 +35,39 @@ pub returns-clause-no_feed : goal.returns-clause-no_feed
 returns-clause-no_feed c =
     let end = fed_with-none (progress_of c.loop-at.self) c.loop-at.left.now c.loop-at.invariant.no_feed c.in_default.ensures in
     ap (list_any is_line_feed) c.in_ok-extend_from_slice-2.ensures.items ∙ end.1
+
+pub returns-in_err-extend_from_slice-clause-ok : goal.returns-in_err-extend_from_slice-clause-ok
+returns-in_err-extend_from_slice-clause-ok c =
+    rw ((err_from_is_err_and c.from_residual.result c.from_residual.ensures.1).1) tt
+
+pub returns-in_err-extend_from_slice-clause-no_feed : goal.returns-in_err-extend_from_slice-clause-no_feed
+returns-in_err-extend_from_slice-clause-no_feed c =
+    rw ((err_from_is_err_and c.from_residual.result c.from_residual.ensures.1).1) tt
+
+pub returns-in_err-extend_from_slice-clause-counted : goal.returns-in_err-extend_from_slice-clause-counted
+returns-in_err-extend_from_slice-clause-counted c =
+    rw ((err_from_is_err_and c.from_residual.result c.from_residual.ensures.1).1) tt
+
+pub returns-in_err-end_line-clause-ok : goal.returns-in_err-end_line-clause-ok
+returns-in_err-end_line-clause-ok c =
+    rw ((err_from_is_err_and c.from_residual-in_err-end_line.result c.from_residual-in_err-end_line.ensures.1).1) tt
+
+pub returns-in_err-end_line-clause-no_feed : goal.returns-in_err-end_line-clause-no_feed
+returns-in_err-end_line-clause-no_feed c =
+    rw ((err_from_is_err_and c.from_residual-in_err-end_line.result c.from_residual-in_err-end_line.ensures.1).1) tt
+
+pub returns-in_err-end_line-clause-counted : goal.returns-in_err-end_line-clause-counted
+returns-in_err-end_line-clause-counted c =
+    rw ((err_from_is_err_and c.from_residual-in_err-end_line.result c.from_residual-in_err-end_line.ensures.1).1) tt
+
+pub returns-in_err-extend_from_slice-2-clause-ok : goal.returns-in_err-extend_from_slice-2-clause-ok
+returns-in_err-extend_from_slice-2-clause-ok c =
+    rw ((err_from_is_err_and c.from_residual-in_err-extend_from_slice-2.result c.from_residual-in_err-extend_from_slice-2.ensures.1).1) tt
+
+pub returns-in_err-extend_from_slice-2-clause-no_feed : goal.returns-in_err-extend_from_slice-2-clause-no_feed
+returns-in_err-extend_from_slice-2-clause-no_feed c =
+    rw ((err_from_is_err_and c.from_residual-in_err-extend_from_slice-2.result c.from_residual-in_err-extend_from_slice-2.ensures.1).1) tt
+
+pub returns-in_err-extend_from_slice-2-clause-counted : goal.returns-in_err-extend_from_slice-2-clause-counted
+returns-in_err-extend_from_slice-2-clause-counted c =
+    rw ((err_from_is_err_and c.from_residual-in_err-extend_from_slice-2.result c.from_residual-in_err-extend_from_slice-2.ensures.1).1) tt
