@@ -1,7 +1,8 @@
--- Three endings of a chain: where its input was not read, where it is no document, and where its output was not written.
+-- The endings of a chain: where its input was not read, where it is no document, where a line of it is not built, where its
+-- output was put, and where it was not written.
 use Rattle.std.proofs.Common.{◌≡◌, ⊎_elim, Result, ℕ, ◌≤◌, List, [], ◌∷◌, Option, Some, None, Ok, Err, IfSome, IsOk, true, false, if◌then◌else◌, length, nat_le, ◌<◌, refl, sym, ap, ◌∙◌, arith, le-leb}
 use Rattle.std.proofs.lemmas.Bool.{lt-leb}
-use Rattle.std.specs.FinMap.{get}
+use Rattle.std.specs.FinMap.{get, insert}
 use Rattle.std.specs.Option.{option_map}
 use Rattle.rel_io.proofs.Options.{at_some, if_some}
 use Rattle.rel_io.specs.Folder.{WriteFailed}
@@ -10,17 +11,20 @@ use Rattle.obo_frames.specs.Answer.{AnswersIt, document_of}
 use Rattle.obo_frames.specs.declared.fault.DocFault.{DocFault}
 use Rattle.obo_frames.specs.declared.fault.DocFault.TheVariants as doc
 use Rattle.obo_frames.specs.declared.placed.Placed.{Placed}
-use Rattle.term_frames.specs.Built.{unbuilt_line}
+use Rattle.term_frames.specs.Built.{RefusesLine, unbuilt_line}
 use Rattle.release_chain.specs.Ending.{Ends, RanOut, Runs, fault_of_input}
 use Rattle.term_frames.specs.Lines.{Line, lines_of}
 use Rattle.term_frames.specs.Mapping.{ontology_of}
 use Rattle.term_frames.specs.Text.{obo_text}
+use Rattle.term_frames.specs.declared.fault.TermsFault.{TermsFault}
+use Rattle.term_frames.specs.declared.fault.TermsFault.TheVariants as terms
+use Rattle.release_chain.specs.LineFault.{fault_of_line}
 use Rattle.release_chain.specs.ReadFile.{ReadsFile}
 use Rattle.release_chain.specs.Release.{EndsAs, StoppedAtOutput, WriteFaultCaused}
 use Rattle.release_chain.specs.Run.{Run, after_outputs, byte_limit, fault_in, line_limit, refuses, run, run_bytes, run_chain, run_document, run_input, run_lines, writes}
 use Rattle.release_chain.specs.Words.{Word, chain}
 use Rattle.release_chain.specs.declared.fault.Fault.{Fault}
-use Rattle.release_chain.specs.declared.fault.Fault.TheVariants.{MissingInput, TooManyBytes}
+use Rattle.release_chain.specs.declared.fault.Fault.TheVariants.{LineNotBuilt, MissingInput, TooManyBytes}
 use Rattle.release_chain.specs.declared.input.FileFault.{FileFault}
 use Rattle.release_chain.specs.declared.input.FileFault.TheVariants as file
 use Rattle.release_chain.specs.declared.words.Paths.{Paths}
@@ -169,11 +173,43 @@ document_failed words before now paths bytes (doc.NoId line) accepted held short
 document_failed words before now paths bytes (doc.ShortGroup line) accepted held short answer same = document_runs words before now paths bytes (doc.ShortGroup line) (λ e. let h : doc.ShortGroup line ≡ doc.NoMemory = e in absurd (cc)) accepted held short answer same
 document_failed words before now paths bytes doc.NoMemory accepted held short answer same = ran_out words before now paths accepted same
 
+-- a line of the input is not built, or memory ran out
+pub line_failed : (words : List Word) (before now : FolderState) (paths : Paths) (bytes : List ℕ) (placed : List Placed) (one : TermsFault) → chain words ≡ Ok paths → IfSome before.holds (λ files. get files paths.input ≡ Some bytes) → length bytes ≤ byte_limit → AnswersIt line_limit bytes (Ok placed)
+    → RefusesLine (lines_of bytes) one → now.holds ≡ before.holds → Ends words before (Err (fault_of_line paths.input one)) now
+line_failed words before now paths bytes placed (terms.LineNotBuilt line) accepted held short answer refused same = record {
+  accepted = rw accepted refl;
+  ending = if_some _ (run words before.holds) (λ r e.
+      let known = known_run words before paths r accepted e in
+      let is : r ≡ refuses paths (LineNotBuilt paths.input line) = sym known.is ∙ run_input-short paths (get known.files paths.input) bytes (at_some _ known.told held) short
+      ∙ ap (run_document paths (lines_of bytes)) (document_is bytes placed answer) ∙ ap (run_lines paths (lines_of bytes)) refused in
+      ends_refused before now paths (LineNotBuilt paths.input line) r is same);
+}
+line_failed words before now paths bytes placed terms.NoMemory accepted held short answer refused same = ran_out words before now paths accepted same
+
+-- the run of an input that is built writes its text
+built_run : (words : List Word) (before : FolderState) (paths : Paths) (bytes : List ℕ) (placed : List Placed) (r : Run) → chain words ≡ Ok paths → IfSome before.holds (λ files. get files paths.input ≡ Some bytes) → length bytes ≤ byte_limit → AnswersIt line_limit bytes (Ok placed) → unbuilt_line (lines_of bytes) ≡ None
+    → run words before.holds ≡ Some r → r ≡ writes paths (ontology_of (lines_of bytes))
+built_run words before paths bytes placed r accepted held short answer built e =
+    let known = known_run words before paths r accepted e in
+    sym known.is ∙ run_input-short paths (get known.files paths.input) bytes (at_some _ known.told held) short ∙ run_bytes-built paths bytes placed answer built
+
+-- the output was put, and nothing is refused
+pub output_put : (words : List Word) (before mid now : FolderState) (paths : Paths) (bytes : List ℕ) (placed : List Placed) → chain words ≡ Ok paths → IfSome before.holds (λ files. get files paths.input ≡ Some bytes) → length bytes ≤ byte_limit → AnswersIt line_limit bytes (Ok placed) → unbuilt_line (lines_of bytes) ≡ None
+    → mid.holds ≡ before.holds → now.holds ≡ option_map (λ (files : Files). insert files paths.output (obo_text (ontology_of (lines_of bytes)))) mid.holds → Runs words before None now
+output_put words before mid now paths bytes placed accepted held short answer built same put = record {
+  accepted = rw accepted refl;
+  ending = if_some _ (run words before.holds) (λ r e.
+      let is = built_run words before paths bytes placed r accepted held short answer built e in
+      record {
+        refusal = sym (ap (λ r. r.refusal) is);
+        outputs = rw is (put ∙ ap (option_map (λ (files : Files). insert files paths.output (obo_text (ontology_of (lines_of bytes))))) same);
+      });
+}
+
 stopped_at_output : (words : List Word) (before mid now : FolderState) (paths : Paths) (bytes : List ℕ) (placed : List Placed) (r : Run) → chain words ≡ Ok paths → IfSome before.holds (λ files. get files paths.input ≡ Some bytes) → length bytes ≤ byte_limit → AnswersIt line_limit bytes (Ok placed) → unbuilt_line (lines_of bytes) ≡ None
     → mid.holds ≡ before.holds → WriteFailed paths.output mid now → run words before.holds ≡ Some r → StoppedAtOutput r before paths.output now
 stopped_at_output words before mid now paths bytes placed r accepted held short answer built same failed e =
-    let known = known_run words before paths r accepted e in
-    let is : r ≡ writes paths (ontology_of (lines_of bytes)) = sym known.is ∙ run_input-short paths (get known.files paths.input) bytes (at_some _ known.told held) short ∙ run_bytes-built paths bytes placed answer built in
+    let is = built_run words before paths bytes placed r accepted held short answer built e in
     record {
       written = [];
       output = record { name = paths.output; ontology = ontology_of (lines_of bytes); bytes = obo_text (ontology_of (lines_of bytes)) };

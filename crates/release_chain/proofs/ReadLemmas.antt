@@ -1,5 +1,5 @@
 -- What was read of a file so far, piece by piece.
-use Rattle.std.proofs.Common.{◌≡◌, ℕ, ◌+◌, ◌<◌, ◌≤◌, List, [], ◌++◌, Some, None, IfSome, IsTrue, length, take, drop, refl, sym, ap, ◌∙◌, arith, length-append, length-take, length-drop}
+use Rattle.std.proofs.Common.{◌≡◌, ℕ, ◌+◌, ◌-◌, ◌<◌, ◌≤◌, List, [], ◌++◌, Some, None, IfSome, IsTrue, length, take, drop, refl, sym, ap, ◌∙◌, arith, length-append, length-take, length-drop}
 use Rattle.std.proofs.Math.Seq.{take-add}
 use Rattle.std.proofs.lemmas.List.{take_all}
 use Rattle.std.specs.FinMap.{get}
@@ -116,3 +116,12 @@ read_too_much limit start now next bytes so_far much = if_some _ (open_file_byte
     let within = grown.1 in
     let long = grown.0 in
     omega arith)
+
+-- one piece on, fewer bytes are left to the limit
+pub read_nears : (limit : ℕ) (now next : FolderState) (bytes new : List ℕ) → ReadsMore limit now bytes next new → limit - length new < limit - length bytes
+read_nears limit now next bytes new more =
+    let long : length new ≡ length bytes + length (take more.count more.piece) = ap length more.bytes ∙ length-append bytes (take more.count more.piece) in
+    let some = more.read.some in
+    let fits = more.read.fits in
+    let within = more.within in
+    omega (arith, length-take more.count more.piece)

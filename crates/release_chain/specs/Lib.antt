@@ -1,6 +1,7 @@
 pub mod Ending
 pub mod Fault
 pub mod Laws
+pub mod LineFault
 pub mod ReadFile
 pub mod Release
 pub mod Run

@@ -3,6 +3,7 @@ ghost use Rattle.std.specs.Prelude.{◌≡◌, map};
 ghost use Rattle.std.specs.String.{string_bytes};
 ghost use Rattle.rel_io.specs.FolderState.{NoCountFell};
 ghost use Rattle.release_chain.specs.Ending.{Ends, EndsChain, fault_of_input};
+ghost use Rattle.release_chain.specs.LineFault.{fault_of_line};
 ghost use Rattle.release_chain.specs.Run.{fault_in};
 
 use crate::words::{Paths, read_words};
@@ -37,17 +38,18 @@ fn run_chain<F: Folder>(alloc: Global, paths: &Paths, folder: &mut F) -> Result<
     };
     match read_document(alloc, bytes.as_slice(), LINE_LIMIT) {
         Ok(document) => drop(document),
-        Err(fault) => return Err(document_fault(fault, name)),
+        Err(fault) => {
+            drop(bytes);
+            return Err(document_fault(fault, name));
+        }
     }
-    let ontology = match read_ontology(alloc, bytes.as_slice()) {
-        Ok(ontology) => ontology,
-        Err(TermsFault::LineNotBuilt { line }) => return Err(Fault::LineNotBuilt {
-            file: name,
-            line,
-        }),
-        Err(TermsFault::NoMemory) => return Err(Fault::NoMemory),
-    };
+    let read = read_ontology(alloc, bytes.as_slice());
     drop(bytes);
+    let ontology = match read {
+        Ok(ontology) => ontology,
+        Err(fault) => return Err(line_fault(fault, name)),
+    };
+    drop(name);
     let text = obo_text(alloc, ontology)?;
     let output = paths.output.copy(alloc)?;
     match folder.put(paths.output.as_slice(), text.as_slice()) {
@@ -83,5 +85,15 @@ fn document_fault(fault: DocFault, file: Bytes) -> Fault
         DocFault::NoId { line } => Fault::NoId { file, line },
         DocFault::ShortGroup { line } => Fault::ShortGroup { file, line },
         DocFault::NoMemory => Fault::NoMemory,
+    }
+}
+
+/// The fault of a chain whose input has a line that is not built.
+fn line_fault(fault: TermsFault, file: Bytes) -> Fault
+    ensures { result ≡ fault_of_line file fault }
+{
+    match fault {
+        TermsFault::LineNotBuilt { line } => Fault::LineNotBuilt { file, line },
+        TermsFault::NoMemory => Fault::NoMemory,
     }
 }
