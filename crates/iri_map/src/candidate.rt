@@ -77,15 +77,9 @@ fn fitting(
     let Some(id) = candidate else {
         return Ok(None);
     };
-    if !is_readable(id.as_slice()) {
-        return Ok(None);
-    }
-    let named = iri_of(alloc, &id, ontology)?;
-    if named.as_slice() == iri.as_slice() {
-        Ok(Some(id))
-    } else {
-        Ok(None)
-    }
+    let fits = is_readable(id.as_slice())
+        && iri_of(alloc, &id, ontology)?.as_slice() == iri.as_slice();
+    Ok(fits.then_some(id))
 }
 
 /// What follows the base, with its last `_` read as `:`.

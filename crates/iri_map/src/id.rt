@@ -1,5 +1,5 @@
 //! The IRI that an id names in an ontology.
-ghost use Rattle.std.specs.Prelude.{◌≡◌, ◌++◌, IfOk, codes};
+ghost use Rattle.std.specs.Prelude.{◌≡◌, ◌++◌, false, IfOk, OnOk, codes};
 ghost use Rattle.std.specs.Char.{is_ascii_digit};
 ghost use Rattle.std.specs.List.{list_all};
 ghost use Rattle.std.specs.Option.{option_map};
@@ -26,12 +26,24 @@ pub fn iri_of(alloc: Global, id: &Bytes, ontology: &Bytes) -> Result<Iri, NoMemo
     if is_url(id) {
         return url_iri(alloc, id);
     }
+    let mut iri = begun(alloc)?;
+    push_id(&mut iri, id, ontology.as_slice())?;
+    Ok(Iri::from_vec(iri))
+}
+
+/// Appends what the IRI of an id that is no URL has behind the base.
+#[tactic(auto, unfolding(crate::specs::Id::iri_of))]
+fn push_id(iri: &mut Vec<u8>, id: &[u8], ontology: &[u8]) -> Result<(), NoMemory>
+    requires base { iri.old.items ≡ spec.base }
+    requires no_url { spec.is_url id.now ≡ false }
+    ensures { OnOk result (iri.new.items ≡ spec.iri_of id.now ontology.now) }
+{
     match split_at_first(b':', id) {
         Some((prefix, number)) if is_prefix(prefix) && is_number(number) => {
-            canonical_iri(alloc, prefix, number)
+            push_canonical(iri, prefix, number)
         }
-        Some((prefix, local)) => prefixed_iri(alloc, prefix, local),
-        None => plain_iri(alloc, id, ontology.as_slice()),
+        Some((prefix, local)) => push_prefixed(iri, prefix, local),
+        None => push_plain(iri, id, ontology),
     }
 }
 
@@ -107,39 +119,35 @@ fn is_number(text: &[u8]) -> bool
 fn are_digits(text: &[u8]) -> bool
     ensures { result ≡ list_all is_ascii_digit text.now }
 {
-    text.iter().all(|b| b.is_ascii_digit())
+    text.iter().all(u8::is_ascii_digit)
 }
 
-/// The base, the prefix, `_` and the number.
-fn canonical_iri(alloc: Global, prefix: &[u8], number: &[u8]) -> Result<Iri, NoMemory>
-    ensures { IfOk result (λ iri. iri ≡ spec.base ++ prefix.now ++ codes "_" ++ number.now) }
+/// Appends the prefix, `_` and the number.
+fn push_canonical(iri: &mut Vec<u8>, prefix: &[u8], number: &[u8]) -> Result<(), NoMemory>
+    ensures { OnOk result (iri.new.items ≡ iri.old.items ++ prefix.now ++ codes "_" ++ number.now) }
 {
-    let mut iri = begun(alloc)?;
     iri.extend_from_slice(prefix)?;
     iri.extend_from_slice(b"_")?;
     iri.extend_from_slice(number)?;
-    Ok(Iri::from_vec(iri))
+    Ok(())
 }
 
-/// The base, what stands before the first `:`, `#_` and what stands after it.
-fn prefixed_iri(alloc: Global, prefix: &[u8], local: &[u8]) -> Result<Iri, NoMemory>
-    ensures { IfOk result
-        (λ iri. iri ≡ spec.base ++ escaped_part prefix.now ++ codes "#_" ++ escaped_part local.now) }
+/// Appends what stands before the first `:`, `#_` and what stands after it.
+fn push_prefixed(iri: &mut Vec<u8>, prefix: &[u8], local: &[u8]) -> Result<(), NoMemory>
+    ensures { OnOk result
+        (iri.new.items ≡ iri.old.items ++ escaped_part prefix.now ++ codes "#_" ++ escaped_part local.now) }
 {
-    let mut iri = begun(alloc)?;
-    push_part(&mut iri, prefix)?;
+    push_part(iri, prefix)?;
     iri.extend_from_slice(b"#_")?;
-    push_part(&mut iri, local)?;
-    Ok(Iri::from_vec(iri))
+    push_part(iri, local)
 }
 
-/// The base, the ontology's name, `#` and the id.
-fn plain_iri(alloc: Global, id: &[u8], ontology: &[u8]) -> Result<Iri, NoMemory>
-    ensures { IfOk result (λ iri. iri ≡ spec.plain_iri id.now ontology.now) }
+/// Appends the ontology's name, `#` and the id.
+fn push_plain(iri: &mut Vec<u8>, id: &[u8], ontology: &[u8]) -> Result<(), NoMemory>
+    ensures { OnOk result
+        (iri.new.items ≡ iri.old.items ++ escaped_part ontology.now ++ codes "#" ++ escaped_part id.now) }
 {
-    let mut iri = begun(alloc)?;
-    push_part(&mut iri, ontology)?;
+    push_part(iri, ontology)?;
     iri.extend_from_slice(b"#")?;
-    push_part(&mut iri, id)?;
-    Ok(Iri::from_vec(iri))
+    push_part(iri, id)
 }

@@ -84,13 +84,8 @@ fn short_name(alloc: Global, candidate: Option<Bytes>, iri: &Iri) -> Result<Opti
     let Some(name) = candidate else {
         return Ok(None);
     };
-    if !is_readable(name.as_slice()) || is_url(name.as_slice()) {
-        return Ok(None);
-    }
-    let given = short_name_iri(alloc, name.as_slice())?;
-    if given.as_slice() == iri.as_slice() {
-        Ok(Some(name))
-    } else {
-        Ok(None)
-    }
+    let is_short = is_readable(name.as_slice())
+        && !is_url(name.as_slice())
+        && short_name_iri(alloc, name.as_slice())?.as_slice() == iri.as_slice();
+    Ok(is_short.then_some(name))
 }
