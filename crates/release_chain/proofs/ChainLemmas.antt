@@ -61,7 +61,7 @@ known_run words before paths r accepted e =
     ] refl
 
 -- to write no output changes nothing
-wrote_nothing : (held : Option Files) → held ≡ option_map (after_outputs []) held
+pub wrote_nothing : (held : Option Files) → held ≡ option_map (after_outputs []) held
 wrote_nothing None = refl
 wrote_nothing (Some files) = refl
 
