@@ -41,8 +41,8 @@ impl Dup for NoteValue {
 impl Dup for Side {
     fn copy(&self, alloc: Global) -> Result<Side, NoMemory> {
         let property = self.property.copy(alloc)?;
-        let value = self.value.copy(alloc)?;
         let label = self.label.copy(alloc)?;
+        let value = self.value.copy(alloc)?;
         Ok(Side {
             property,
             value,

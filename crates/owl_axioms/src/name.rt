@@ -3,7 +3,7 @@ use rel_io::{Dup, Iri, NoMemory};
 use std::alloc::Global;
 
 /// The kinds of entities that axioms speak of.
-#[derive(Clone, Copy, Debug, PartialEq, Eq, Hash)]
+#[derive(Clone, Copy, PartialEq, Eq, Hash)]
 pub enum Kind {
     /// A class.
     Class,
@@ -16,7 +16,7 @@ pub enum Kind {
 }
 
 /// An entity: one IRI may name several, one of each kind.
-#[derive(Debug, PartialEq, Eq, Hash, Drop)]
+#[derive(PartialEq, Eq, Hash, Drop)]
 pub struct Name {
     /// What kind of entity it is.
     pub kind: Kind,
