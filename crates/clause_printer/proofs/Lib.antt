@@ -1,3 +1,4 @@
+pub mod LoopLemmas
 pub mod PrintedBlocks
 pub mod PrintedLines
 pub mod PrintedParts
