@@ -1,7 +1,8 @@
 //! `Ontology`: a name and a list of proper axioms without repeats, each with its least origin.
 ghost use Rattle.std.specs.Prelude.{◌≡◌, ◌<◌, ◌↔◌, [], Some, IsTrue, IfOk, OnOk, OnErr, drop, length, slice_get};
 ghost use Rattle.std.specs.Option.{option_copied, option_map_or};
-ghost use Rattle.indexmap.specs.IndexMap.{IsUnique};
+ghost use Rattle.std.specs.Map.{lookup};
+ghost use Rattle.indexmap.specs.IndexMap.{IsUnchanged, IsUnique, insert_entry};
 ghost use Rattle.owl_axioms.specs.Same.{same_axiom};
 ghost use Rattle.owl_ontology.specs.Ontology.{AreDifferent, IsHeld, add_entry, axioms_of, first_flag, flagged, origins_of};
 ghost use Rattle.owl_ontology.specs.Origins.{lesser};
@@ -59,7 +60,7 @@ impl Ontology {
         ensures unchanged { OnErr result (self.new ≡ self.old) }
     {
         let least = least_origin(self.axioms.get(&axiom).copied(), origin);
-        let held = self.axioms.insert(axiom, least)?;
+        let held = put(&mut self.axioms, axiom, least)?;
         Ok(held.is_none())
     }
 
@@ -145,9 +146,23 @@ fn copy_table(
     for at in 0..axioms.len() {
         let (axiom, origin) = axioms.get_index(at).unwrap();
         let twin = axiom.copy(alloc)?;
-        twins.insert(twin, *origin)?;
+        put(&mut twins, twin, *origin)?;
     }
     Ok(twins)
+}
+
+/// Puts an axiom with its origin into a table, and gives the origin that it had there, if any.
+fn put(
+    axioms: &mut IndexMap<Axiom, Origin>,
+    axiom: Axiom,
+    origin: Origin,
+) -> Result<Option<Origin>, NoMemory>
+    ensures old { IfOk result (λ old. old ≡ lookup (same_axiom «axiom») axioms.old.entries) }
+    ensures entries { OnOk result (axioms.new.entries ≡ insert_entry same_axiom axioms.old.entries «axiom» origin) }
+    ensures err { OnErr result (IsUnchanged axioms.old axioms.new) }
+    ensures unique { IsUnique same_axiom axioms.new }
+{
+    Ok(axioms.insert(axiom, origin)?)
 }
 
 /// The lesser of the origin that an axiom has, if any, and another one.

@@ -11,9 +11,9 @@ loop-at-preserved c =
     let pairs = c.args.axioms.now.entries in
     let origin = c.unwrap.result.1.now in
     let here : slice_get pairs c.loop-at.at ≡ Some (c.unwrap.result.0.now, origin) = sym c.get_index.ensures.entry ∙ ap (option_map deref_pair) c.unwrap.ensures in (
-      c.in_ok-insert.ensures.entries
+      c.in_ok-put.ensures.entries
           ∙ (λ i. insert_entry same_axiom (c.loop-at.invariant.0 i) (c.in_ok-twin.ensures i) origin)
           ∙ insert_next pairs c.loop-at.at c.unwrap.result.0.now origin c.len-at-end.ensures.unique here
           ∙ ap (λ n. take n pairs) (sym (add-one c.loop-at.at)),
-      c.in_ok-insert.ensures.unique,
+      c.in_ok-put.ensures.unique,
     )

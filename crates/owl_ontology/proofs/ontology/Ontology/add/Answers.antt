@@ -21,10 +21,10 @@ returns-clause-entries c =
     let pairs = c.self.inside.axioms.entries in
     let least : c.least_origin-least.result ≡ option_map_or (lesser c.args.origin) (lookup (same_axiom c.args.axiom) pairs) c.args.origin =
     c.least_origin-least.ensures ∙ ap (λ held. option_map_or (lesser c.args.origin) held c.args.origin) (c.copied.ensures ∙ c.get.ensures.value) in
-    let table : c.insert.new.self.entries ≡ insert_entry same_axiom pairs c.args.axiom (option_map_or (lesser c.args.origin) (lookup (same_axiom c.args.axiom) pairs) c.args.origin) =
+    let table : c.put.new.axioms.entries ≡ insert_entry same_axiom pairs c.args.axiom (option_map_or (lesser c.args.origin) (lookup (same_axiom c.args.axiom) pairs) c.args.origin) =
     c.in_ok-held.ensures.entries ∙ ap (insert_entry same_axiom pairs c.args.axiom) least in
-    let entries : entries_of c.insert.new.self.entries ≡ add_entry c.args.axiom c.args.origin (entries_of pairs) = ap entries_of table ∙ entries_of-insert pairs c.args.axiom c.args.origin in
-    let after : OntologyState = record { name = c.self.inside.name; entries = entries_of c.insert.new.self.entries } in
+    let entries : entries_of c.put.new.axioms.entries ≡ add_entry c.args.axiom c.args.origin (entries_of pairs) = ap entries_of table ∙ entries_of-insert pairs c.args.axiom c.args.origin in
+    let after : OntologyState = record { name = c.self.inside.name; entries = entries_of c.put.new.axioms.entries } in
     subst (λ (o : OntologyState). after ≡ record o { entries = add_entry c.args.axiom c.args.origin o.entries }) c.self.view_is (λ i. record { name = c.self.inside.name; entries = entries i })
 
 pub returns-clause-is_new : goal.returns-clause-is_new
