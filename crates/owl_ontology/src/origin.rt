@@ -3,7 +3,7 @@ use rel_io::{Dup, NoMemory};
 use std::alloc::Global;
 
 /// A place in the input: ordered by file, then by line. An axiom that a step added has file 0 and line 0.
-#[derive(Clone, Copy, Debug, PartialEq, Eq, PartialOrd, Ord)]
+#[derive(Clone, Copy, PartialEq, Eq, PartialOrd, Ord)]
 pub struct Origin {
     /// The place in the list of files, from 0.
     pub file: u32,
