@@ -4,14 +4,14 @@ use Rattle.std.specs.List.{All, flat_map}
 use Rattle.std.proofs.lemmas.Bool.{not-true, not_from_false, or_from, or_parts}
 use Rattle.std.proofs.lemmas.List.Elements.{All-head, All-map, All-nil, All-tail, All-weaker}
 use Rattle.std.proofs.lemmas.List.Folds.{list_any_none}
-use Rattle.obo_lexer.specs.Lines.{is_return}
+use Rattle.rel_io.specs.Texts.{IsText, is_return}
 use Rattle.obo_lexer.specs.Tokens.{is_blank}
 use Rattle.obo_clause.specs.declared.clause.Qualifier.{Qualifier}
 use Rattle.obo_clause.specs.Grammar.{AreBlanks, AreQualifiers, IsBlock, IsComment, IsEnding, IsKey, IsQualifier, IsQuoted}
 use Rattle.obo_clause.specs.Grammar as grammar
 use Rattle.obo_clause.specs.declared.mark.Mark.{Mark}
 use Rattle.obo_clause.specs.Marks.{bare, read_as}
-use Rattle.clause_printer.specs.Laws.{FitsQualifier, IsText}
+use Rattle.clause_printer.specs.Laws.{FitsQualifier}
 use Rattle.clause_printer.specs.Printing.{block_text, qualifier_text, quoted_text}
 use Rattle.obo_clause.specs.Vocabulary.{block_close, block_open, comma, equals, is_key_mark, is_one_of, is_space}
 use Rattle.clause_printer.proofs.SpelledMarks.{is_spellable, spelled}

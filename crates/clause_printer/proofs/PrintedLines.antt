@@ -18,7 +18,8 @@ use Rattle.obo_clause.specs.declared.clause.Xref.{Xref}
 use Rattle.obo_clause.specs.Grammar.{AreBlanks, IsEnding, IsQuoted, IsWord, IsXrefList}
 use Rattle.obo_clause.specs.declared.mark.Mark.{Mark}
 use Rattle.obo_clause.specs.Marks.{marks_of}
-use Rattle.clause_printer.specs.Laws.{FitBehind, Fits, FitsQualifier, FitsShape, FitsXref, IsLineOf, IsRawText, IsText, IsWordOrNone, IsWordText}
+use Rattle.rel_io.specs.Texts.{IsText, IsWordText}
+use Rattle.clause_printer.specs.Laws.{FitBehind, Fits, FitsQualifier, FitsShape, FitsXref, IsLineOf, IsRawText, IsWordOrNone}
 use Rattle.clause_printer.specs.Printing.{behind_space, block_text, clause_text, is_escaped_in_word, list_text, quoted_text, run_text, scope_text, space, type_text, value_text, word_text, xref_text}
 use Rattle.obo_clause.specs.Spelled.{IsLine, IsSpelledAs}
 use Rattle.obo_clause.specs.Spelling.{IsContent, IsMoreList, IsMoreWord, IsRun, IsScoped, IsSecondWord, IsTagged, IsTypeScope, IsValue, Says, Spells, bool_word, scope_word, shape_at}

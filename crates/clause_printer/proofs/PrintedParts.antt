@@ -5,14 +5,13 @@ use Rattle.std.proofs.lemmas.Bool.{both_ways, cases_Bool, eqb-true, false_from_n
 use Rattle.std.proofs.lemmas.List.Elements.{All-cons, All-head, All-nil, All-tail}
 use Rattle.std.proofs.lemmas.List.Folds.{list_any-append}
 use Rattle.std.proofs.lemmas.Str.{IsUtf8-append, IsUtf8-nil}
-use Rattle.obo_lexer.specs.Lines.{is_line_feed, is_return}
+use Rattle.rel_io.specs.Texts.{IsText, IsWordText, is_line_feed, is_return}
 use Rattle.obo_lexer.specs.Tokens.{is_blank}
 use Rattle.obo_clause.specs.declared.clause.Qualifier.{Qualifier}
 use Rattle.obo_clause.specs.Grammar.{AreBlanks, AreQualifiers, AreSlots, AreTrimmed, IsBlock, IsComment, IsEnding, IsEntry, IsFree, IsKey, IsLabel, IsQualifier, IsQuoted, IsSlot, IsTrimmed, IsWord, IsXrefList}
 use Rattle.obo_clause.specs.Grammar as grammar
 use Rattle.obo_clause.specs.declared.mark.Mark.{Mark}
 use Rattle.obo_clause.specs.Marks.{bare, meant, read_as}
-use Rattle.clause_printer.specs.Laws.{IsText, IsWordText}
 use Rattle.clause_printer.specs.Printing.{is_escaped_in_word, letter_of, spelled_byte, word_text}
 use Rattle.obo_clause.specs.Spelled.{IsLine}
 use Rattle.obo_clause.specs.Vocabulary.{block_close, block_open, exclamation, is_bare, is_entry_mark, is_one_of, is_quoted_mark, is_space, is_word_mark}

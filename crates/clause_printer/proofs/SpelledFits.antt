@@ -15,7 +15,8 @@ use Rattle.obo_clause.specs.Grammar.{AreBlanks, AreQualifiers, AreSlots, IsBlock
 use Rattle.obo_clause.specs.Grammar as grammar
 use Rattle.obo_clause.specs.declared.mark.Mark.{Mark}
 use Rattle.obo_clause.specs.Marks.{bare, read_as}
-use Rattle.clause_printer.specs.Laws.{FitBehind, Fits, FitsQualifier, FitsShape, FitsXref, IsText, IsTextOrNone, IsWordOrNone, IsWordText}
+use Rattle.rel_io.specs.Texts.{IsText, IsWordText}
+use Rattle.clause_printer.specs.Laws.{FitBehind, Fits, FitsQualifier, FitsShape, FitsXref, IsTextOrNone, IsWordOrNone}
 use Rattle.obo_clause.specs.Spelled.{IsLine, IsSpelledAs}
 use Rattle.obo_clause.specs.Spelling.{IsContent, IsMoreList, IsMoreWord, IsScoped, IsSecondWord, IsTagged, IsTypeScope, IsValue, shape_at, text_datatype}
 use Rattle.obo_clause.specs.Spelling as spelling

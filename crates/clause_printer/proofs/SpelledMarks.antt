@@ -7,10 +7,9 @@ use Rattle.std.proofs.lemmas.Bool.{and_from, and_parts, both_ways, cases_Bool, c
 use Rattle.std.proofs.lemmas.List.Elements.{All-head, All-tail}
 use Rattle.std.proofs.lemmas.List.Folds.{list_any-append}
 use Rattle.std.proofs.lemmas.Str.{IsUtf8-nil, encode_ascii}
-use Rattle.obo_lexer.specs.Lines.{is_line_feed, is_return}
+use Rattle.rel_io.specs.Texts.{IsText, is_line_feed, is_return}
 use Rattle.obo_clause.specs.declared.mark.Mark.{Mark}
 use Rattle.obo_clause.specs.Marks.{bare, marks_of, meant, read_as}
-use Rattle.clause_printer.specs.Laws.{IsText}
 use Rattle.clause_printer.specs.Printing.{letter_of, spelled_byte}
 use Rattle.obo_clause.specs.Spelled.{IsLine}
 use Rattle.obo_clause.specs.Vocabulary.{is_one_of}

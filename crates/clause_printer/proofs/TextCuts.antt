@@ -9,11 +9,10 @@ use Rattle.std.proofs.lemmas.List.{map-append}
 use Rattle.std.proofs.lemmas.List.Elements.{All-head, All-tail}
 use Rattle.std.proofs.lemmas.List.Folds.{list_any-append}
 use Rattle.std.proofs.lemmas.Str.{IsCharBoundary-after_ascii, IsCharBoundary-before_ascii, IsUtf8-drop, IsUtf8-nil, IsUtf8-take, encode_ascii, len_utf8_bounds, length-encode}
-use Rattle.obo_lexer.specs.Lines.{is_line_feed, is_return}
+use Rattle.rel_io.specs.Texts.{IsText, is_line_feed, is_return}
 use Rattle.obo_lexer.specs.Tokens.{is_blank}
 use Rattle.obo_clause.specs.declared.mark.Mark.{Mark}
 use Rattle.obo_clause.specs.Marks.{marks_of, meant, read_as}
-use Rattle.clause_printer.specs.Laws.{IsText}
 use Rattle.obo_clause.specs.Spelled.{IsLine}
 use Rattle.obo_clause.specs.Grammar.{AreBlanks}
 use Rattle.obo_clause.specs.Vocabulary.{is_space}

@@ -2,7 +2,7 @@
 use Rattle.std.specs.Prelude.{◌≡◌, ◌<◌, ◌↔◌, ℕ, Bool, false, List, [], Option, None, Some, length}
 use Rattle.std.specs.List.{All, AllPass, list_any}
 use Rattle.std.specs.Str.{IsUtf8}
-use Rattle.obo_lexer.specs.Lines.{is_return}
+use Rattle.rel_io.specs.Texts.{IsText, IsWordText}
 use Rattle.obo_lexer.specs.Tokens.{is_blank}
 use Rattle.obo_tags.specs.declared.kind.FrameKind.{FrameKind}
 use Rattle.obo_tags.specs.declared.kind.ValueShape.{ValueShape}
@@ -19,16 +19,6 @@ use Rattle.clause_printer.specs.Printing.{clause_text}
 use Rattle.obo_clause.specs.Spelled.{IsLine, IsSpelledAs}
 use Rattle.obo_clause.specs.Spelling.{Says, Spells, shape_at}
 use Rattle.obo_clause.specs.Vocabulary.{is_key_mark, is_tag_byte}
-
--- any UTF-8 without CR. It may have LF, which an escape gives
-pub record IsText (text : List ℕ) : Type 0 where
-  pub utf8 : IsUtf8 text
-  pub no_return : list_any is_return text ≡ false
-
--- any text that is not empty: escapes give each byte a place in a word
-pub record IsWordText (word : List ℕ) : Type 0 where
-  pub some : 0 < length word
-  pub text : IsText word
 
 -- there is no word, or it is one
 abbrev pub IsWordOrNone : Option (List ℕ) → Type 0

@@ -16,7 +16,7 @@ use Rattle.std.proofs.lemmas.Slice.Eq.{bytes_eq-Decides}
 use Rattle.percent_encoding.proofs.PercentLemmas.{IsByte}
 use Rattle.iri_map.specs.Escape.{escaped_part, stays_in_part}
 use Rattle.iri_map.specs.Split.{Parts, after_start, onto_front, split_at_first}
-use Rattle.iri_map.specs.Readable.{is_readable}
+use Rattle.rel_io.specs.Texts.{is_readable}
 use Rattle.iri_map.specs.Id.{base, colon, underscore, is_canonical, is_number, is_url, iri_of, plain_iri}
 use Rattle.iri_map.specs.Candidate.{hash, candidates, canonical_candidate, id_of, names_iri, plain_candidate, prefixed_candidate, HasNoId}
 use Rattle.iri_map.specs.Laws.{IdIsCandidate, IdIsSettled, IdNamesIri, IriHasId, IsCleanUrl}

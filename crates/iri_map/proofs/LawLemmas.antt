@@ -7,9 +7,9 @@ use Rattle.std.proofs.lemmas.Bool.Decides.{nat_tests}
 use Rattle.std.proofs.lemmas.List.Elements.{All-append, All-cons, All-nil, All-weaker}
 use Rattle.std.proofs.lemmas.List.Sums.{AllPass-from_list_all}
 use Rattle.std.proofs.lemmas.Option.{same_Some}
-use Rattle.iri_map.specs.Escape.{escaped_part, holds_byte}
+use Rattle.rel_io.specs.Texts.{carriage_return, holds_byte, is_readable}
+use Rattle.iri_map.specs.Escape.{escaped_part}
 use Rattle.iri_map.specs.Split.{Parts, split_at_first}
-use Rattle.iri_map.specs.Readable.{carriage_return, is_readable}
 use Rattle.iri_map.specs.Id.{base, colon, iri_of, is_number, is_prefix, is_url, is_word_byte}
 use Rattle.iri_map.specs.Candidate.{candidates, canonical_candidate, id_of, names_iri}
 use Rattle.iri_map.specs.Laws.{CanonicalIdIsSettled, FollowsForms}

@@ -7,7 +7,7 @@ use Rattle.std.proofs.lemmas.Bool.{and_parts, cases_Bool, cond-false, cond-true,
 use Rattle.std.proofs.lemmas.Slice.Eq.{bytes_eq-Decides}
 use Rattle.iri_map.specs.Escape.{escaped_part}
 use Rattle.iri_map.specs.Split.{before_end}
-use Rattle.iri_map.specs.Readable.{is_readable}
+use Rattle.rel_io.specs.Texts.{is_readable}
 use Rattle.iri_map.specs.Id.{base, is_url}
 use Rattle.iri_map.specs.Ontology.{IsNormalisedValue, is_short_name, normalised, ontology_iri, ontology_value, short_name_candidate, short_name_iri}
 use Rattle.iri_map.specs.Laws.{IsCleanUrl, NameIsSettled}

@@ -9,8 +9,7 @@ use Rattle.std.proofs.lemmas.List.Elements.{All-append, All-cons, All-head, All-
 use Rattle.std.proofs.lemmas.Str.{IsUtf8-from_ascii, IsUtf8-from_is_utf8, is_utf8-from_IsUtf8}
 use Rattle.std.proofs.lemmas.Str.Ascii.{IsAscii-from_all}
 use Rattle.percent_encoding.proofs.PercentLemmas.{IsByte}
-use Rattle.iri_map.specs.Escape.{holds_byte}
-use Rattle.iri_map.specs.Readable.{carriage_return, is_readable}
+use Rattle.rel_io.specs.Texts.{carriage_return, holds_byte, is_readable}
 
 -- ---- the bytes of UTF-8
 

@@ -9,7 +9,7 @@ use Rattle.std.proofs.lemmas.List.Elements.{All-append, All-weaker}
 use Rattle.std.proofs.lemmas.List.Sums.{AllPass-from_list_all}
 use Rattle.std.proofs.lemmas.Slice.Eq.{starts_is}
 use Rattle.iri_map.specs.Escape.{escaped_part, escaped_url, stays_in_url}
-use Rattle.iri_map.specs.Readable.{carriage_return, is_readable}
+use Rattle.rel_io.specs.Texts.{carriage_return, is_readable}
 use Rattle.iri_map.specs.Id.{base, is_number, is_prefix, is_url, is_word_byte, iri_of}
 use Rattle.iri_map.specs.Ontology.{ontology_iri, short_name_iri}
 use Rattle.iri_map.specs.Laws.{IsCleanUrl}

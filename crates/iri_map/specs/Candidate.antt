@@ -7,7 +7,7 @@ use Rattle.std.specs.Str.{bytes_eq}
 use Rattle.percent_encoding.specs.Percent.{percent_decode}
 use Rattle.iri_map.specs.Escape.{escaped_part}
 use Rattle.iri_map.specs.Split.{Parts, after_start, split_at_first, split_at_last}
-use Rattle.iri_map.specs.Readable.{is_readable}
+use Rattle.rel_io.specs.Texts.{is_readable}
 use Rattle.iri_map.specs.Id.{base, colon, underscore, iri_of}
 
 -- `#`

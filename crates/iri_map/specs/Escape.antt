@@ -4,10 +4,7 @@ use Rattle.std.specs.Prelude.{ℕ, Bool, not, ◌&&◌, ◌||◌, ◌==◌, List
 use Rattle.std.specs.Char.{is_ascii_alphanumeric, is_ascii_graphic}
 use Rattle.std.specs.List.{flat_map, list_any}
 use Rattle.percent_encoding.specs.Percent.{percent_encode_byte}
-
--- the byte stands in the text
-abbrev pub holds_byte : List ℕ → ℕ → Bool
-holds_byte text b = list_any (λ c. c == b) text
+use Rattle.rel_io.specs.Texts.{holds_byte}
 
 -- what stays in a part of an IRI: ASCII letters, digits, `-`, `.`, `_`, `~` and `/`
 abbrev pub stays_in_part : ℕ → Bool

@@ -1,8 +1,8 @@
 -- What the layers above use of ids and IRIs: laws over all ids, IRIs and names of ontologies. (Own.)
 use Rattle.std.specs.Prelude.{◌≡◌, ℕ, List, ◌∷◌, ◌++◌, codes, Contains, IsTrue, IsFalse, IfSome, IsSome, Some}
 use Rattle.std.specs.List.{AllPass}
-use Rattle.iri_map.specs.Escape.{escaped_part, escaped_url, holds_byte, stays_in_url}
-use Rattle.iri_map.specs.Readable.{is_readable}
+use Rattle.rel_io.specs.Texts.{holds_byte, is_readable}
+use Rattle.iri_map.specs.Escape.{escaped_part, escaped_url, stays_in_url}
 use Rattle.iri_map.specs.Id.{base, colon, iri_of, is_canonical, is_number, is_prefix, is_url}
 use Rattle.iri_map.specs.Candidate.{candidates, id_of}
 use Rattle.iri_map.specs.Ontology.{normalised, ontology_iri}

@@ -1,6 +1,5 @@
 pub mod Escape
 pub mod Split
-pub mod Readable
 pub mod Id
 pub mod Candidate
 pub mod Ontology

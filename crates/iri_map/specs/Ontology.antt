@@ -7,7 +7,7 @@ use Rattle.std.specs.Str.{bytes_eq}
 use Rattle.percent_encoding.specs.Percent.{percent_decode}
 use Rattle.iri_map.specs.Escape.{escaped_part, escaped_url}
 use Rattle.iri_map.specs.Split.{after_start, before_end}
-use Rattle.iri_map.specs.Readable.{is_readable}
+use Rattle.rel_io.specs.Texts.{is_readable}
 use Rattle.iri_map.specs.Id.{base, is_url}
 
 -- what stands in place of a name in the IRIs of an ontology without one

@@ -4,7 +4,7 @@ ghost use Rattle.std.specs.List.{filter_map, find};
 ghost use Rattle.std.specs.Option.{option_to_list};
 ghost use Rattle.iri_map.specs.Candidate as spec;
 ghost use Rattle.iri_map.specs.Id.{iri_of};
-ghost use Rattle.iri_map.specs.Readable.{is_readable};
+ghost use Rattle.rel_io.specs.Texts.{is_readable};
 
 use crate::escape::{decoded, push_decoded, push_part};
 use crate::id::{after_base, begun, iri_of};

@@ -2,7 +2,7 @@
 use Rattle.std.specs.Prelude.{◌≡◌, ℕ, Bool, false, List}
 use Rattle.std.specs.List.{list_any}
 use Rattle.std.specs.Str.{IsUtf8}
-use Rattle.obo_lexer.specs.Lines.{is_line_feed, is_return}
+use Rattle.rel_io.specs.Texts.{is_line_feed, is_return}
 use Rattle.obo_tags.specs.declared.kind.FrameKind.{FrameKind}
 use Rattle.obo_clause.specs.declared.clause.Clause.{Clause}
 use Rattle.obo_clause.specs.Spelling.{Spells}

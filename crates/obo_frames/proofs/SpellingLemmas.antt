@@ -6,7 +6,7 @@ use Rattle.std.proofs.lemmas.Bool.{false≢true, or_parts}
 use Rattle.std.proofs.lemmas.List.{length-map}
 use Rattle.std.proofs.lemmas.List.Folds.{list_any-append}
 use Rattle.std.proofs.lemmas.Str.{IsUtf8-take}
-use Rattle.obo_lexer.specs.Lines.{is_line_feed, is_return}
+use Rattle.rel_io.specs.Texts.{is_line_feed, is_return}
 use Rattle.obo_tags.specs.Table.{shape_of, tags_of}
 use Rattle.obo_tags.specs.declared.kind.FrameKind.{FrameKind}
 use Rattle.obo_tags.specs.declared.kind.FrameKind.TheVariants as kinds

@@ -9,7 +9,8 @@ use Rattle.obo_lexer.specs.declared.line.LineItem.{LineItem}
 use Rattle.obo_lexer.specs.Feeding.{Feeder, Progress, begun, fed_with, finished, items_behind, unmarked, with_first}
 use Rattle.obo_lexer.specs.Items.{body_of, lines_of, numbered}
 use Rattle.obo_lexer.specs.Laws.{LinesAreOnly, LinesAreWritten, PiecesJoin, Run, RunsGiveLines, feeding, starting, taking}
-use Rattle.obo_lexer.specs.Lines.{HasNoLineFeed, all_but_last, byte_order_mark, ended_lines, is_line_feed, last_line, last_part, rest_of, without_mark, written}
+use Rattle.rel_io.specs.Texts.{is_line_feed}
+use Rattle.obo_lexer.specs.Lines.{HasNoLineFeed, all_but_last, byte_order_mark, ended_lines, last_line, last_part, rest_of, without_mark, written}
 use Rattle.obo_lexer.proofs.FeedingLemmas.{fed_with-twice, items_behind-append}
 use Rattle.obo_lexer.proofs.LineLemmas.{NoFeed, NoFeed-from_test, ended-cons, ended_lines-none, ended_lines-one, rest-cons, rest_of-none, rest_of-one, split-cons, test-from_NoFeed}
 

@@ -4,7 +4,8 @@ use Rattle.std.specs.List.{list_any, onto_first, slice_split}
 use Rattle.std.proofs.lemmas.Bool.{cases_Bool}
 use Rattle.std.proofs.lemmas.List.{get_or-take, length-take-le}
 use Rattle.memchr.specs.Find.{IsFirstByte, is_byte}
-use Rattle.obo_lexer.specs.Lines.{HasNoLineFeed, all_but_last, ended_lines, is_line_feed, last_part, rest_of}
+use Rattle.rel_io.specs.Texts.{is_line_feed}
+use Rattle.obo_lexer.specs.Lines.{HasNoLineFeed, all_but_last, ended_lines, last_part, rest_of}
 
 -- each byte, one by one, is no LF
 abbrev pub NoFeed : List ℕ → Type 0

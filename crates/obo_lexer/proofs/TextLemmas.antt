@@ -12,7 +12,8 @@ use Rattle.obo_lexer.specs.declared.line.LineItem.{LineItem}
 use Rattle.obo_lexer.specs.Feeding.{Progress, ended_with, fed_with, finished, items_behind, unmarked}
 use Rattle.obo_lexer.specs.Held.{HaveLineTexts, has_line_text}
 use Rattle.obo_lexer.specs.Items.{HasLineText, body_of}
-use Rattle.obo_lexer.specs.Lines.{HasNoLineFeed, byte_order_mark, ended_lines, is_line_feed, is_return, rest_of, shown, text_of, without_mark, without_return}
+use Rattle.rel_io.specs.Texts.{is_line_feed, is_return}
+use Rattle.obo_lexer.specs.Lines.{HasNoLineFeed, byte_order_mark, ended_lines, rest_of, shown, text_of, without_mark, without_return}
 use Rattle.obo_lexer.proofs.LawLemmas.{lines_are_written}
 use Rattle.obo_lexer.proofs.LineLemmas.{NoFeed, NoFeed-from_test}
 

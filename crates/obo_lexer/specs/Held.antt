@@ -7,7 +7,8 @@ use Rattle.obo_lexer.specs.declared.line.LineBody.{LineBody}
 use Rattle.obo_lexer.specs.declared.line.LineBody.TheVariants.{NotUtf8, Text, TooLong}
 use Rattle.obo_lexer.specs.declared.line.LineItem.{LineItem}
 use Rattle.obo_lexer.specs.Feeding.{Progress}
-use Rattle.obo_lexer.specs.Lines.{HasNoLineFeed, is_line_feed, is_return}
+use Rattle.rel_io.specs.Texts.{is_line_feed, is_return}
+use Rattle.obo_lexer.specs.Lines.{HasNoLineFeed}
 
 -- how far the lines have come
 abbrev pub progress_of : Lines → Progress

@@ -5,7 +5,8 @@ use Rattle.std.specs.Str.{IsUtf8, is_utf8}
 use Rattle.obo_lexer.specs.declared.line.LineBody.{LineBody}
 use Rattle.obo_lexer.specs.declared.line.LineBody.TheVariants.{NotUtf8, Text, TooLong}
 use Rattle.obo_lexer.specs.declared.line.LineItem.{LineItem}
-use Rattle.obo_lexer.specs.Lines.{file_lines, is_line_feed, is_return, text_of}
+use Rattle.rel_io.specs.Texts.{is_line_feed, is_return}
+use Rattle.obo_lexer.specs.Lines.{file_lines, text_of}
 
 -- the body of a line: NotUtf8 where its text is no UTF-8, otherwise TooLong where that has more bytes
 -- than the limit, otherwise the text

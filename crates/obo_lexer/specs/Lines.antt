@@ -2,18 +2,11 @@
 -- (OBO Flat File Format 1.4, the file's structure; the byte order mark: The Unicode Standard).
 use Rattle.std.specs.Prelude.{◌≡◌, ℕ, ◌==◌, Bool, false, List, [], ◌∷◌, ◌++◌, nat_eq, drop, length, slice_index, take, map, ◌-◌, if◌then◌else◌}
 use Rattle.std.specs.List.{list_any, slice_split, starts_with}
-
--- the byte LF, which ends a line
-abbrev pub is_line_feed : ℕ → Bool
-is_line_feed byte = byte == 10
+use Rattle.rel_io.specs.Texts.{is_line_feed, is_return}
 
 -- no byte of these is LF
 abbrev pub HasNoLineFeed : List ℕ → Type 0
 HasNoLineFeed bytes = list_any is_line_feed bytes ≡ false
-
--- the byte CR
-abbrev pub is_return : ℕ → Bool
-is_return byte = byte == 13
 
 -- a list without its last element
 abbrev pub all_but_last : {X : Type 0} → List X → List X

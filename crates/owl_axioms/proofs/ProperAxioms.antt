@@ -3,7 +3,8 @@ use Rattle.std.proofs.Common.{◌≡◌, ℕ, ◌≤◌, true, ◌&&◌, List, [
 use Rattle.std.specs.List.{list_all}
 use Rattle.std.proofs.lemmas.List.Folds.{list_all-append}
 use Rattle.std.proofs.lemmas.Bool.Decides.{nat_tests}
-use Rattle.owl_axioms.specs.Proper.{IsProper, are_proper_sides, is_clean_iri, is_iri_byte, is_proper, is_proper_body, is_proper_name, is_proper_side, is_proper_value, rises}
+use Rattle.rel_io.specs.Texts.{is_clean_iri, is_iri_byte}
+use Rattle.owl_axioms.specs.Proper.{IsProper, are_proper_sides, is_proper, is_proper_body, is_proper_name, is_proper_side, is_proper_value, rises}
 use Rattle.owl_axioms.specs.declared.annotation.NoteValue.TheVariants as note
 use Rattle.owl_axioms.specs.declared.annotation.Side.{Side}
 use Rattle.owl_axioms.specs.declared.body.Body.TheVariants as body

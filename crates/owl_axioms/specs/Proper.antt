@@ -4,6 +4,7 @@ use Rattle.std.specs.Prelude.{ℕ, ◌==◌, Bool, true, not, ◌&&◌, ◌||◌
 use Rattle.std.specs.Cmp.Lexicographic.{pointwise, slice_cmp}
 use Rattle.std.specs.List.{list_all}
 use Rattle.std.specs.Ordering.{is_gt, is_lt, nat_cmp}
+use Rattle.rel_io.specs.Texts.{is_clean_iri}
 use Rattle.owl_axioms.specs.Text.{expr_text, iri_text, owl_nothing, owl_thing, side_text}
 use Rattle.owl_axioms.specs.declared.annotation.NoteValue.{NoteValue}
 use Rattle.owl_axioms.specs.declared.annotation.NoteValue.TheVariants as note
@@ -15,14 +16,6 @@ use Rattle.owl_axioms.specs.declared.expr.ClassExpr.{ClassExpr}
 use Rattle.owl_axioms.specs.declared.expr.ClassExpr.TheOpen.{ClassExpr-F}
 use Rattle.owl_axioms.specs.declared.expr.ClassExpr.TheFolds.{para-ClassExpr}
 use Rattle.owl_axioms.specs.declared.name.Name.{Name}
-
--- a byte that an IRI may have: above a space, and none of `"`, `<` and `>`
-abbrev pub is_iri_byte : ℕ → Bool
-is_iri_byte b = nat_lt 32 b && not (b == 34 || b == 60 || b == 62)
-
--- an IRI whose text between angle brackets ends where the IRI does
-unfoldable pub is_clean_iri : List ℕ → Bool
-is_clean_iri iri = list_all is_iri_byte iri
 
 -- the IRI of a class that is neither owl:Thing nor owl:Nothing, which are trees of their own
 unfoldable pub is_class_iri : List ℕ → Bool

@@ -3,7 +3,9 @@ pub mod Count
 pub mod FileList
 pub mod Folder
 pub mod FolderState
+pub mod Limits
 pub mod MemFolder
 pub mod MemSink
 pub mod Sink
+pub mod Texts
 pub mod formers

@@ -1,6 +1,7 @@
 //! An ontology of a few declarations, case by case; and copies of axioms of each kind.
 ghost use Rattle.std.specs.Prelude.{IfOk, IsTrue};
-ghost use Rattle.owl_axioms.specs.Proper.{IsProper, is_clean_iri};
+ghost use Rattle.rel_io.specs.Texts.{is_clean_iri};
+ghost use Rattle.owl_axioms.specs.Proper.{IsProper};
 
 use document_examples::is_copied;
 use owl_axioms::{Axiom, Body, ClassExpr, Kind, Name, NoteValue, Side};

@@ -4,7 +4,7 @@ use Rattle.std.proofs.lemmas.Option.{IfSome_then}
 use Rattle.std.proofs.lemmas.Result.{IfOk-weaker}
 use Rattle.iri_map.specs.Candidate.{HasNoId}
 use Rattle.iri_map.specs.Id.{iri_of}
-use Rattle.iri_map.specs.Readable.{is_readable}
+use Rattle.rel_io.specs.Texts.{is_readable}
 use Rattle.iri_map.proofs.CandidateLemmas.{id_of-names_iri, id_of-none}
 use Rattle.iri_map.proofs.candidate.id_of.Goals as goal
 

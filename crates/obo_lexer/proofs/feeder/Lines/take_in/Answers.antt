@@ -5,7 +5,7 @@ use Rattle.std.proofs.lemmas.List.{take_rest}
 use Rattle.std.proofs.lemmas.Result.{err_from_is_err_and}
 use Rattle.obo_lexer.specs.Feeding.{ended_with, fed_with}
 use Rattle.obo_lexer.specs.Held.{progress_of}
-use Rattle.obo_lexer.specs.Lines.{is_line_feed}
+use Rattle.rel_io.specs.Texts.{is_line_feed}
 use Rattle.obo_lexer.proofs.FeedingLemmas.{fed_with-none, fed_with-one}
 use Rattle.obo_lexer.proofs.feeder.Lines.take_in.Goals as goal
 

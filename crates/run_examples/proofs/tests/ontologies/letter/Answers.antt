@@ -1,5 +1,5 @@
 use Rattle.std.proofs.Common.{◌+◌, ◌%◌, IsTrue, arith, subst, sym, ◌∙◌}
-use Rattle.owl_axioms.specs.Proper.{is_clean_iri}
+use Rattle.rel_io.specs.Texts.{is_clean_iri}
 use Rattle.owl_axioms.proofs.ProperAxioms.{is_clean_iri-letter}
 use Rattle.run_examples.proofs.tests.ontologies.letter.Goals as goal
 
