@@ -1,7 +1,10 @@
 #!/usr/bin/env python3
 """checks/links.py  tests that each link of each page of the repository leads somewhere: a relative link to a file or a
-folder that is there, and an #anchor to a heading of the page that it names. Links to other sites are not followed. It
-prints each link that leads nowhere, and ends with status 1 where there is one."""
+folder that is there, and an #anchor to a heading of the page that it names. Links to other sites are not followed. What
+stands between backquotes and begins as a path from the top of the repository, as `docs/COST.md`, has to be there too; `*`
+stands for any name in it, and a path with a name in capital letters, as `crates/NAME`, is a form of paths and not looked
+at. It prints each link and path that leads nowhere, and ends with status 1 where there is one."""
+import glob
 import os
 import re
 import subprocess
@@ -10,6 +13,9 @@ import urllib.parse
 
 LINK = re.compile(r"!?\[(?:[^\[\]]|\[[^\[\]]*\])*\]\(\s*<?([^()<>\s]+)>?(?:\s+\"[^\"]*\")?\s*\)")
 NAMED = re.compile(r"^\s{0,3}\[[^\]]+\]:\s*<?(\S+?)>?(?:\s|$)")
+CODE = re.compile(r"(`+)(?!`)(.*?)(?<!`)\1(?!`)")
+PATH = re.compile(r"(?:crates|docs|bench|checks|sample)/[\w./*-]+")
+FORM = re.compile(r"(?:^|/)[A-Z]+(?:$|/|\.)")
 HEADING = re.compile(r"^\s{0,3}#{1,6}\s+(.*?)\s*#*\s*$")
 
 
@@ -54,12 +60,21 @@ def anchors(path):
 def links(path):
     """Gives the links of a page, with their lines. What stands between backquotes is no link."""
     for number, line in prose(path):
-        bare = re.sub(r"(`+)(?!`).*?(?<!`)\1(?!`)", lambda code: "x" * len(code[0]), line)
+        bare = CODE.sub(lambda code: "x" * len(code[0]), line)
         for link in LINK.finditer(bare):
             yield number, link[1]
         named = NAMED.match(bare)
         if named:
             yield number, named[1]
+
+
+def paths(path):
+    """Gives the paths that a page names between backquotes, with their lines."""
+    for number, line in prose(path):
+        for code in CODE.finditer(line):
+            named = PATH.fullmatch(code[2].strip())
+            if named and not (FORM.search(named[0]) and not named[0].endswith(".md")):
+                yield number, named[0]
 
 
 def fault(top, page, link):
@@ -94,7 +109,12 @@ def main():
             if why:
                 bad += 1
                 print(f"{page}:{number}: {link}: {why}")
-    print(f"{count} links, {bad} lead nowhere")
+        for number, path in paths(f"{top}/{page}"):
+            count += 1
+            if not glob.glob(f"{top}/{path}"):
+                bad += 1
+                print(f"{page}:{number}: {path}: there is no such file")
+    print(f"{count} links and paths, {bad} lead nowhere")
     return 1 if bad else 0
 
 
