@@ -1,0 +1,5 @@
+pub mod KeyLemmas
+pub mod OnceLemmas
+pub mod PartLemmas
+pub mod SetLemmas
+pub mod SortedLemmas
