@@ -1,10 +1,10 @@
 -- Lines read and placed one after the other: how far they have come.
-use Rattle.std.proofs.Common.{◌≡◌, ℕ, List, [], ◌∷◌, ◌++◌, Ok, None, Option, append-nil, ap, refl, subst, sym, ◌∙◌}
+use Rattle.std.proofs.Common.{◌≡◌, ℕ, List, [], ◌∷◌, ◌++◌, None, Option, append-nil, ap, refl, subst, sym, ◌∙◌}
 use Rattle.obo_lexer.specs.Items.{lines_of}
 use Rattle.obo_lexer.specs.declared.line.LineItem.{LineItem}
 use Rattle.obo_frames.specs.Documents.{first_fault, frame_fault, least_line}
 use Rattle.obo_frames.specs.Groups.{short_lines}
-use Rattle.obo_frames.specs.Reading.{AnswersItem, AnswersItemFailure, IsRead}
+use Rattle.obo_frames.specs.Reading.{IsRead}
 use Rattle.obo_frames.specs.Standing.{behind_line, lost_at_end, lost_at_line, lost_from, placed_by_line, placed_from}
 use Rattle.obo_frames.specs.Telling.{IsTold, behind, start}
 use Rattle.obo_frames.specs.declared.fault.DocFault.{DocFault}
@@ -13,7 +13,7 @@ use Rattle.obo_frames.specs.declared.standing.Standing.TheVariants.{Header}
 use Rattle.obo_frames.specs.declared.told.Place.{Place}
 use Rattle.obo_frames.specs.declared.told.Told.{Told}
 use Rattle.obo_frames.proofs.PlacingLemmas.{lost_from-is, lost_step, placed_from-is, placed_step}
-use Rattle.obo_frames.proofs.ReadingLemmas.{Reads, all_read, one_more, only_read, reads_more, reads_nothing}
+use Rattle.obo_frames.proofs.ReadingLemmas.{Reads, all_read, one_more, reads_more, reads_nothing}
 
 -- the draft has what these lines place, whatever comes behind them
 pub record Places (tolds : List Told) (draft : Draft) : Type 0 where
@@ -43,10 +43,10 @@ places_more tolds draft next told places standing placed lost = record {
   lost = λ more. lost_step draft.lost next.lost _ draft.standing next.standing told (told ∷ more) more refl lost standing (places.lost (told ∷ more) ∙ ap (λ lines. least_line None (lost_from Header lines)) (sym (one_more tolds more told)));
 }
 
-pub progress_goes_on : (all : List LineItem) (place next : Place) (draft later : Draft) (item : LineItem) (rest : List LineItem) (told : Told) → Progress all place draft (item ∷ rest) → IsTold place item told → AnswersItem place item (Ok told) → AnswersItemFailure place item (Ok told) → next ≡ behind place told.said → later.standing ≡ behind_line draft.standing told.line told.said → later.placed.items ≡ draft.placed.items ++ placed_by_line draft.standing told.line told.said → later.lost ≡ least_line draft.lost (lost_at_line draft.standing told.said) → Progress all next later rest
-progress_goes_on all place next draft later item rest told progress is answers fails at standing placed lost = record {
+pub progress_goes_on : (all : List LineItem) (place next : Place) (draft later : Draft) (item : LineItem) (rest : List LineItem) (told : Told) → Progress all place draft (item ∷ rest) → IsTold place item told → next ≡ behind place told.said → later.standing ≡ behind_line draft.standing told.line told.said → later.placed.items ≡ draft.placed.items ++ placed_by_line draft.standing told.line told.said → later.lost ≡ least_line draft.lost (lost_at_line draft.standing told.said) → Progress all next later rest
+progress_goes_on all place next draft later item rest told progress is at standing placed lost = record {
   tolds = progress.tolds ++ told ∷ [];
-  reads = subst (λ begin. Reads all (progress.tolds ++ told ∷ []) begin rest) (sym at) (reads_more all progress.tolds place item rest told progress.reads is answers fails);
+  reads = subst (λ begin. Reads all (progress.tolds ++ told ∷ []) begin rest) (sym at) (reads_more all progress.tolds place item rest told progress.reads is);
   places = places_more progress.tolds draft later told progress.places standing placed lost;
 }
 
@@ -58,7 +58,6 @@ all_drawn limit bytes place draft progress =
     record {
       tolds = tolds;
       tells = all_read (lines_of limit bytes) tolds place progress.reads;
-      only = only_read (lines_of limit bytes) tolds place progress.reads;
       in_places = sym (append-nil draft.placed.items) ∙ progress.places.placed [] ∙ ap (placed_from Header) whole ∙ placed_from-is tolds;
       lost = progress.places.lost [] ∙ ap (λ lines. least_line None (lost_from Header lines)) whole ∙ ap (least_line None) (lost_from-is tolds);
     }

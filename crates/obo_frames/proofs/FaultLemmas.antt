@@ -1,5 +1,5 @@
 -- The first fault of the frames is the least of all.
-use Rattle.std.proofs.Common.{◌≡◌, ◌⊎◌, inl, inr, ◌≤◌, ℕ, Bool, true, false, not, ◌&&◌, List, [], ◌∷◌, Option, None, Some, ap, arith, codes, cond, ltb, min, refl, subst, sym, ⊎_elim, ◌∙◌, ◌||◌}
+use Rattle.std.proofs.Common.{◌≡◌, ◌⊎◌, inl, inr, ◌≤◌, ℕ, Bool, true, false, not, ◌&&◌, List, [], ◌∷◌, Option, None, Some, ap, arith, codes, cond, ltb, map, min, refl, subst, sym, ⊎_elim, ◌∙◌, ◌||◌}
 use Rattle.std.specs.Prelude.{Contains, is_none}
 use Rattle.std.specs.List.{list_any}
 use Rattle.std.specs.Str.{bytes_eq}
@@ -8,7 +8,9 @@ use Rattle.std.proofs.lemmas.Bool.Decides.{nat_tests}
 use Rattle.std.proofs.lemmas.Slice.Eq.{bytes_eq-Decides}
 use Rattle.obo_frames.specs.Documents.{first_fault, frame_fault, least_line}
 use Rattle.obo_frames.specs.Frames.{Frame, frames_of, id_of, lacks_id, lines_without_id, placed_of}
-use Rattle.obo_frames.specs.Groups.{differs, name_of, operands_in, same_expression, short_lines, short_lines_of}
+use Rattle.obo_frames.specs.Framed.{unlined}
+use Rattle.obo_frames.specs.Naming.{space_of}
+use Rattle.obo_frames.specs.Groups.{differs, operands_in, same_expression, short_lines, short_lines_of}
 use Rattle.obo_frames.specs.Laws.{FirstIsLeast, FrameFails, IsAlone, IsGroupTag, intersection, line_of, no_id, short_group, union}
 use Rattle.obo_frames.specs.declared.fault.DocFault.{DocFault}
 use Rattle.obo_frames.specs.declared.fault.DocFault.TheVariants as fault
@@ -156,7 +158,7 @@ from_alone operands one alone =
 
 short-at : (tag : List ℕ) → IsGroupTag tag → (tolds : List Told) (line : ℕ) → Among line (short_lines_of tag (placed_of tolds)) → FrameFails tolds (fault.ShortGroup line)
 short-at tag is_tag tolds line among =
-    let operands = operands_in tag (name_of (placed_of tolds)) (placed_of tolds) in
+    let operands = operands_in tag (space_of (map unlined (placed_of tolds))) (placed_of tolds) in
     let image = image-from_among (λ one. not (list_any (differs one) operands)) (λ (one : Operand). one.line) operands line among in
     subst (λ at. FrameFails tolds (fault.ShortGroup at)) image.image (short_group tag image.source is_tag (contains-from_among operands image.source image.among) (alone_from operands image.source image.passes))
 
@@ -165,12 +167,12 @@ short-among tolds line among =
     ⊎_elim (short-at (codes "intersection_of") intersection tolds line) (short-at (codes "union_of") union tolds line)
     (among-append_cases (short_lines_of (codes "intersection_of") (placed_of tolds)) (short_lines_of (codes "union_of") (placed_of tolds)) line among)
 
-among-at : (tag : List ℕ) (placed : List Placed) (one : Operand) → Contains (operands_in tag (name_of placed) placed) one → IsAlone (operands_in tag (name_of placed) placed) one → Among one.line (short_lines_of tag placed)
+among-at : (tag : List ℕ) (placed : List Placed) (one : Operand) → Contains (operands_in tag (space_of (map unlined placed)) placed) one → IsAlone (operands_in tag (space_of (map unlined placed)) placed) one → Among one.line (short_lines_of tag placed)
 among-at tag placed one contains alone =
-    let operands = operands_in tag (name_of placed) placed in
+    let operands = operands_in tag (space_of (map unlined placed)) placed in
     among-from_image (λ it. not (list_any (differs it) operands)) (λ (it : Operand). it.line) operands one (among-from_contains operands one contains) (from_alone operands one alone)
 
-among-short : (tag : List ℕ) → IsGroupTag tag → (placed : List Placed) (one : Operand) → Contains (operands_in tag (name_of placed) placed) one → IsAlone (operands_in tag (name_of placed) placed) one → Among one.line (short_lines placed)
+among-short : (tag : List ℕ) → IsGroupTag tag → (placed : List Placed) (one : Operand) → Contains (operands_in tag (space_of (map unlined placed)) placed) one → IsAlone (operands_in tag (space_of (map unlined placed)) placed) one → Among one.line (short_lines placed)
 among-short tag intersection placed one contains alone =
     among-append_left _ (short_lines_of (codes "union_of") placed) one.line (among-at (codes "intersection_of") placed one contains alone)
 among-short tag union placed one contains alone =

@@ -9,7 +9,9 @@ use Rattle.std.proofs.lemmas.Bool.{and_parts, false_from_ne_true, false≢true}
 use Rattle.std.proofs.lemmas.Map.Text.{is_eq-slice_cmp}
 use Rattle.std.proofs.lemmas.Slice.Eq.{bytes_eq-Decides}
 use Rattle.obo_frames.specs.Documents.{least_line}
-use Rattle.obo_frames.specs.Groups.{differs, name_of, operands_in, same_expression, short_in, short_lines}
+use Rattle.obo_frames.specs.Framed.{unlined}
+use Rattle.obo_frames.specs.Naming.{space_of}
+use Rattle.obo_frames.specs.Groups.{differs, operands_in, same_expression, short_in, short_lines}
 use Rattle.obo_frames.specs.Summary.{is_one, joined, summary_of}
 use Rattle.obo_frames.specs.declared.groups.Expression.{Expression}
 use Rattle.obo_frames.specs.declared.groups.Expression.TheVariants.{Class, Restriction}
@@ -148,7 +150,7 @@ one_is_short sums operands summed =
 abbrev lines_at : List ℕ → List ℕ → List Placed → List ℕ
 lines_at tag name placed = map (λ one. one.line) (short_in (operands_in tag name placed))
 
-pub both_tags : (name : List ℕ) (placed : List Placed) (first last : Option ℕ) → name ≡ name_of placed → first ≡ least_line None (lines_at (codes "intersection_of") name placed) → last ≡ least_line first (lines_at (codes "union_of") name placed) → last ≡ least_line None (short_lines placed)
+pub both_tags : (name : List ℕ) (placed : List Placed) (first last : Option ℕ) → name ≡ space_of (map unlined placed) → first ≡ least_line None (lines_at (codes "intersection_of") name placed) → last ≡ least_line first (lines_at (codes "union_of") name placed) → last ≡ least_line None (short_lines placed)
 both_tags name placed first last named first_is last_is =
     last_is
     ∙ (λ i. least_line (first_is i) (lines_at (codes "union_of") name placed))

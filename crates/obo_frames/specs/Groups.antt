@@ -2,54 +2,25 @@
 -- stand and however the ids there are spelled; likewise all `union_of` clauses. Each stands for an expression, and a group
 -- whose clauses all stand for the same one is short. (The groups: OBO Flat File Format 1.4, term frames; ids are compared
 -- by the IRIs that they have in this ontology.)
-use Rattle.std.specs.Prelude.{ℕ, Bool, true, false, not, ◌&&◌, List, [], ◌∷◌, ◌++◌, Option, None, Some, codes, filter, if◌then◌else◌, map}
-use Rattle.std.specs.Cmp.Lexicographic.{slice_cmp}
+use Rattle.std.specs.Prelude.{ℕ, Bool, true, false, not, ◌&&◌, List, ◌++◌, Option, None, Some, codes, filter, if◌then◌else◌, map}
 use Rattle.std.specs.List.{filter_map, list_any}
 use Rattle.std.specs.Option.{option_map}
-use Rattle.std.specs.Ordering.{is_lt, nat_cmp}
 use Rattle.std.specs.Str.{bytes_eq}
 use Rattle.iri_map.specs.Id.{iri_of}
-use Rattle.iri_map.specs.Ontology.{name_or_temp, normalised}
 use Rattle.obo_tags.specs.declared.kind.FrameKind.{FrameKind}
 use Rattle.obo_tags.specs.declared.kind.FrameKind.TheVariants as kinds
 use Rattle.obo_clause.specs.declared.clause.Value.{Value}
 use Rattle.obo_clause.specs.declared.clause.Value.TheVariants as value
-use Rattle.obo_frames.specs.Frames.{word_in}
+use Rattle.obo_frames.specs.Framed.{unlined}
+use Rattle.obo_frames.specs.Naming.{space_of}
 use Rattle.obo_frames.specs.declared.groups.Expression.{Expression}
 use Rattle.obo_frames.specs.declared.groups.Expression.TheVariants.{Class, Restriction}
 use Rattle.obo_frames.specs.declared.groups.Operand.{Operand}
 use Rattle.obo_frames.specs.declared.placed.Placed.{Placed}
 
-abbrev pub is_header : FrameKind → Bool
-is_header kinds.Header = true
-is_header _ = false
-
 abbrev pub is_term : FrameKind → Bool
 is_term kinds.Term = true
 is_term _ = false
-
--- the value of an `ontology` clause of the header
-abbrev pub ontology_in : Placed → Option (List ℕ)
-ontology_in placed =
-    if is_header placed.frame && bytes_eq placed.clause.tag (codes "ontology") then word_in placed.clause.value else None
-
--- the names that the header gives the ontology
-abbrev pub names_in : List Placed → List (List ℕ)
-names_in placed = filter_map (λ one. option_map normalised (ontology_in one)) placed
-
--- the lesser of two texts, by bytes
-abbrev pub lesser_text : Option (List ℕ) → List ℕ → List ℕ
-lesser_text None text = text
-lesser_text (Some best) text = if is_lt (slice_cmp nat_cmp text best) then text else best
-
--- the least of the texts and of one before them, if there is any
-abbrev pub least_text : Option (List ℕ) → List (List ℕ) → Option (List ℕ)
-least_text best [] = best
-least_text best (text ∷ texts) = least_text (Some (lesser_text best text)) texts
-
--- the ontology's name, or what stands in place of one
-abbrev pub name_of : List Placed → List ℕ
-name_of placed = name_or_temp (least_text None (names_in placed))
 
 -- the expression that a value stands for: a class, or what some filler of a role is
 abbrev pub expression_of : List ℕ → Value → Option Expression
@@ -86,7 +57,7 @@ short_in operands = filter (λ one. not (list_any (differs one) operands)) opera
 
 -- the lines of the clauses of short groups
 abbrev pub short_lines_of : List ℕ → List Placed → List ℕ
-short_lines_of tag placed = map (λ one. one.line) (short_in (operands_in tag (name_of placed) placed))
+short_lines_of tag placed = map (λ one. one.line) (short_in (operands_in tag (space_of (map unlined placed)) placed))
 
 abbrev pub short_lines : List Placed → List ℕ
 short_lines placed = short_lines_of (codes "intersection_of") placed ++ short_lines_of (codes "union_of") placed

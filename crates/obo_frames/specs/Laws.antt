@@ -1,14 +1,19 @@
 -- What the definitions of documents amount to, in other words. (Own.)
-use Rattle.std.specs.Prelude.{◌≡◌, ◌⊎◌, ◌≤◌, ℕ, Bool, List, [], None, Some, codes, Contains, map}
+use Rattle.std.specs.Prelude.{◌≡◌, ◌⊎◌, ◌↔◌, ◌≤◌, ℕ, Bool, List, [], Option, None, Some, codes, Contains, map}
 use Rattle.std.specs.List.Sorted.{IsStrictlyIncreasing}
+use Rattle.std.specs.declared.cmp.Ordering.TheVariants.{Less}
+use Rattle.text_sets.specs.Sets.{In}
+use Rattle.text_sets.specs.Sorted.{text_cmp}
 use Rattle.obo_lexer.specs.Items.{lines_of}
 use Rattle.obo_lexer.specs.declared.line.LineBody.TheVariants as body
 use Rattle.obo_clause.specs.Spelling.{Spells}
 use Rattle.obo_clause.specs.declared.clause.Qualifier.{Qualifier}
 use Rattle.obo_frames.specs.Documents.{IsDocument, IsFirstFault, first_fault}
 use Rattle.obo_frames.specs.Frames.{Frame, frames_of, id_of, placed_of}
-use Rattle.obo_frames.specs.Groups.{name_of, operands_in}
-use Rattle.obo_frames.specs.Soundness.{GivesId}
+use Rattle.obo_frames.specs.Framed.{Framed, SameClauses, unlined}
+use Rattle.obo_frames.specs.Groups.{operands_in}
+use Rattle.obo_frames.specs.Naming.{name_of, names_in, space_of}
+use Rattle.obo_frames.specs.Soundness.{GivesId, HasNoShortGroup, IsSound}
 use Rattle.obo_frames.specs.declared.fault.DocFault.{DocFault}
 use Rattle.obo_frames.specs.declared.fault.DocFault.TheVariants as fault
 use Rattle.obo_frames.specs.declared.groups.Operand.{Operand}
@@ -55,7 +60,7 @@ IsAlone operands one =
 -- a fault of the frames of these lines: a frame without an id, at its frame line, or a clause of a short group, at its line
 pub data FrameFails (tolds : List Told) : DocFault → Type 0 where
   no_id : (frame : Frame) → Contains (frames_of tolds) frame → id_of frame.entries ≡ None → FrameFails tolds (fault.NoId frame.line)
-  short_group : (tag : List ℕ) (one : Operand) → IsGroupTag tag → Contains (operands_in tag (name_of (placed_of tolds)) (placed_of tolds)) one → IsAlone (operands_in tag (name_of (placed_of tolds)) (placed_of tolds)) one → FrameFails tolds (fault.ShortGroup one.line)
+  short_group : (tag : List ℕ) (one : Operand) → IsGroupTag tag → Contains (operands_in tag (space_of (map unlined (placed_of tolds))) (placed_of tolds)) one → IsAlone (operands_in tag (space_of (map unlined (placed_of tolds))) (placed_of tolds)) one → FrameFails tolds (fault.ShortGroup one.line)
 
 -- the line that a fault names
 abbrev pub line_of : DocFault → ℕ
@@ -78,6 +83,26 @@ pub record FirstIsLeast (tolds : List Told) : Type 0 where
 
 abbrev pub FirstFaultIsLeast : Type 0
 FirstFaultIsLeast = (tolds : List Told) → FirstIsLeast tolds
+
+-- ---- clauses as a set
+
+-- of all names that the header gives, normalised, the ontology has the least by bytes; without one it has none
+pub record IsLeastName (names : List (List ℕ)) (name : Option (List ℕ)) : Type 0 where
+  pub none : (name ≡ None) ↔ (names ≡ [])
+  pub among : (least : List ℕ) → name ≡ Some least → In least names
+  pub least : (one other : List ℕ) → name ≡ Some one → In other names → ¬ (text_cmp other one ≡ Less)
+
+abbrev pub NameIsLeast : Type 0
+NameIsLeast = (framed : List Framed) → IsLeastName (names_in framed) (name_of framed)
+
+-- what is asked of documents, and what their name is, goes by the clauses alone
+pub record GoesByClauses (some others : List Placed) : Type 0 where
+  pub name : name_of (map unlined some) ≡ name_of (map unlined others)
+  pub groups : HasNoShortGroup some → HasNoShortGroup others
+  pub sound : IsSound some → IsSound others
+
+abbrev pub SameClausesSayTheSame : Type 0
+SameClausesSayTheSame = (some others : List Placed) → SameClauses some others → GoesByClauses some others
 
 -- ---- documents and faults
 

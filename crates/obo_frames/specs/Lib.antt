@@ -1,10 +1,12 @@
 pub mod Answer
 pub mod Documents
+pub mod Framed
 pub mod Frames
 pub mod Groups
-pub mod Soundness
 pub mod Laws
+pub mod Naming
 pub mod Reading
+pub mod Soundness
 pub mod Standing
 pub mod Summary
 pub mod Telling

@@ -1,5 +1,6 @@
 //! `Document`: the placed clauses of a file.
 ghost use Rattle.std.specs.Prelude.{◌≡◌, ◌<◌, Some, length, slice_get};
+ghost use Rattle.obo_clause.specs.Spelled.{CanBeSpelled};
 ghost use Rattle.obo_frames.specs.Soundness.{IsSound};
 
 use crate::Placed;
@@ -50,10 +51,18 @@ impl Document {
         self.placed.as_slice().len()
     }
 
+    /// The clauses, in their order.
+    pub fn as_slice(&self) -> &[Placed]
+        ensures { result.now ≡ self.now }
+    {
+        self.placed.as_slice()
+    }
+
     /// The clause at a place, from 0.
     pub fn get(&self, at: usize) -> &Placed
         requires { at < length self.now }
-        ensures { slice_get self.now at ≡ Some result.now }
+        ensures clause { slice_get self.now at ≡ Some result.now }
+        ensures spelled { CanBeSpelled result.now.clause }
     {
         &self.placed.as_slice()[at]
     }

@@ -9,7 +9,7 @@ ghost use Rattle.obo_frames.specs.Groups as spec;
 ghost use Rattle.obo_frames.specs.Summary.{AddsOperand, IsSummaryOf, is_one, joined};
 
 use crate::Placed;
-use crate::name::name_of;
+use crate::name::space_of;
 use crate::standing::lesser_line;
 use iri_map::iri_of;
 use obo_clause::Value;
@@ -64,7 +64,7 @@ impl Dup for Expression {
 pub fn short_line(alloc: Global, placed: &[Placed]) -> Result<Option<u32>, NoMemory>
     ensures { IfOk result (λ least. least ≡ least_line None (spec.short_lines placed.now)) }
 {
-    let name = name_of(alloc, placed)?;
+    let name = space_of(alloc, placed)?;
     let least = least_short(alloc, None, b"intersection_of", &name, placed)?;
     least_short(alloc, least, b"union_of", &name, placed)
 }

@@ -1,6 +1,6 @@
 //! What the definitions of this crate amount to. Each law is the contract of a function that does nothing.
 ghost use Rattle.obo_frames.specs.Answer.{IsExact};
-ghost use Rattle.obo_frames.specs.Laws.{FirstFaultIsLeast, HasOneFault, IsDocumentOrFault, IsNeverBoth, IsOneDocument, LinesRise, LinesSpell};
+ghost use Rattle.obo_frames.specs.Laws.{FirstFaultIsLeast, HasOneFault, IsDocumentOrFault, IsNeverBoth, IsOneDocument, LinesRise, LinesSpell, NameIsLeast, SameClausesSayTheSame};
 
 /// A file is one document, or it has one first fault, and never both.
 pub fn file_is_document_or_fault(bytes: &[u8], line_limit: u32)
@@ -27,4 +27,15 @@ pub fn first_fault_is_least()
 /// where it has one.
 pub fn file_is_told(bytes: &[u8], line_limit: u32)
     ensures { IsExact line_limit bytes.now }
+{}
+
+/// Of all names that the header gives the ontology has the least, each taken in its normal form.
+pub fn name_is_least()
+    ensures { NameIsLeast }
+{}
+
+/// Whether clauses are those of a document, whether a group is short, and the name of the ontology depend on the set of
+/// the clauses in their frames alone: not on their lines, their order and their repeats.
+pub fn clauses_are_a_set()
+    ensures { SameClausesSayTheSame }
 {}

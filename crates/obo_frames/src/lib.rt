@@ -17,6 +17,10 @@ mod told;
 
 pub use document::Document;
 pub use fault::DocFault;
-pub use laws::{file_is_document_or_fault, file_is_told, first_fault_is_least, lines_are_placed};
+pub use laws::{
+    clauses_are_a_set, file_is_document_or_fault, file_is_told, first_fault_is_least,
+    lines_are_placed, name_is_least,
+};
+pub use name::ontology_name;
 pub use placed::Placed;
 pub use read::read_document;

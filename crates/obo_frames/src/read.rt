@@ -27,9 +27,7 @@ pub fn read_document(alloc: Global, bytes: &[u8], line_limit: u32) -> Result<Doc
 fn judged(alloc: Global, bytes: &[u8], line_limit: u32) -> Result<Document, DocFault>
     requires { length bytes.now < 2 ^ 32 }
     ensures document { IfOk result (IsDocument line_limit bytes.now) }
-    ensures read { AnswersDocument line_limit bytes.now result }
     ensures fault { IfErr result (IsFaultOf line_limit bytes.now) }
-    ensures refused { AnswersFault line_limit bytes.now result }
 {
     let draft = read_lines(alloc, bytes, line_limit)?;
     let Draft {

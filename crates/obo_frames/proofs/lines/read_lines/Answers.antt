@@ -4,7 +4,7 @@ use Rattle.std.proofs.lemmas.Result.{err_from_is_err_and}
 use Rattle.obo_lexer.specs.Feeding.{Feeder}
 use Rattle.obo_lexer.specs.Items.{lines_of}
 use Rattle.obo_frames.proofs.DraftLemmas.{Progress, all_drawn, progress_begins, progress_goes_on}
-use Rattle.obo_frames.proofs.ReadingLemmas.{fails_here, fails_only_here, untold_here}
+use Rattle.obo_frames.proofs.ReadingLemmas.{fails_here}
 use Rattle.obo_frames.proofs.lines.read_lines.Goals as goal
 
 -- a feeder with no line to take that is not spent has none waiting
@@ -25,7 +25,7 @@ loop-item-preserved c =
     let progress = subst (Progress all c.loop-item.place c.loop-item.draft) (ap (λ (feeder : Feeder). feeder.lines.waiting) c.in-Some.ensures.some) c.loop-item.invariant.0 in
     let said = c.in_ok-told.ensures in
     let more = c.in_ok-draft.ensures in (
-      progress_goes_on all c.loop-item.place _ c.loop-item.draft _ c.in-Some.item _ c.in_ok-told.told progress said.tells said.told said.failed c.behind-place.ensures more.standing more.placed more.lost,
+      progress_goes_on all c.loop-item.place _ c.loop-item.draft _ c.in-Some.item _ c.in_ok-told.told progress said.tells c.behind-place.ensures more.standing more.placed more.lost,
       sym (ap (λ (feeder : Feeder). feeder.is_spent) c.in-Some.ensures.some) ∙ c.loop-item.invariant.1,
     )
 
@@ -36,26 +36,7 @@ returns-in_err-told-clause-fails c =
     let progress = subst (Progress all c.loop-item.place c.loop-item.draft) (ap (λ (feeder : Feeder). feeder.lines.waiting) c.in-Some.ensures.some) c.loop-item.invariant.0 in
     rw (p.1, p.2) (fails_here all _ _ _ _ _ progress.reads c.in_err-told.ensures.fails)
 
-pub returns-in_err-told-clause-first : goal.returns-in_err-told-clause-first
-returns-in_err-told-clause-first c =
-    let p = err_from_is_err_and c.from_residual-in_err-told.result c.from_residual-in_err-told.ensures.1 in
-    let all = lines_of c.args.limit c.args.bytes.now in
-    let progress = subst (Progress all c.loop-item.place c.loop-item.draft) (ap (λ (feeder : Feeder). feeder.lines.waiting) c.in-Some.ensures.some) c.loop-item.invariant.0 in
-    rw (p.1, p.2) (fails_only_here all _ _ _ _ _ progress.reads c.in_err-told.ensures.told c.in_err-told.ensures.failed)
-
-pub returns-in_err-told-clause-untold : goal.returns-in_err-told-clause-untold
-returns-in_err-told-clause-untold c =
-    let p = err_from_is_err_and c.from_residual-in_err-told.result c.from_residual-in_err-told.ensures.1 in
-    let all = lines_of c.args.limit c.args.bytes.now in
-    let progress = subst (Progress all c.loop-item.place c.loop-item.draft) (ap (λ (feeder : Feeder). feeder.lines.waiting) c.in-Some.ensures.some) c.loop-item.invariant.0 in
-    rw (p.1, p.2) (untold_here all _ _ _ _ _ progress.reads c.in_err-told.ensures.told)
-
 pub returns-clause-read : goal.returns-clause-read
 returns-clause-read c =
     let none = nothing_waits c.loop-item.feeder (c.in_default.ensures.none_waits.0 refl) c.loop-item.invariant.1 in
     all_drawn c.args.limit c.args.bytes.now c.loop-item.place c.loop-item.draft (subst (Progress (lines_of c.args.limit c.args.bytes.now) c.loop-item.place c.loop-item.draft) none c.loop-item.invariant.0)
-
-pub returns-clause-no_fault : goal.returns-clause-no_fault
-returns-clause-no_fault c =
-    let none = nothing_waits c.loop-item.feeder (c.in_default.ensures.none_waits.0 refl) c.loop-item.invariant.1 in
-    (subst (Progress (lines_of c.args.limit c.args.bytes.now) c.loop-item.place c.loop-item.draft) none c.loop-item.invariant.0).reads.failed

@@ -1,11 +1,8 @@
-use Rattle.std.proofs.Common.{◌≡◌, ◌⊎◌, ℕ, List, Err, None, ap, inl, inr, subst, sym, ⊎_elim, ◌∙◌}
+use Rattle.std.proofs.Common.{None, ap, inl, inr, subst, sym, ⊎_elim, ◌∙◌}
 use Rattle.std.proofs.lemmas.Result.{err_from_is_err_and}
-use Rattle.obo_frames.specs.Documents.{IsFirstFault, least_line, of_frame, of_line}
+use Rattle.obo_frames.specs.Documents.{least_line, of_frame, of_line}
 use Rattle.obo_frames.specs.Groups.{short_lines}
-use Rattle.obo_frames.specs.Reading.{IsNoFault, IsTheLineFault}
 use Rattle.obo_frames.specs.Soundness.{IsKept}
-use Rattle.obo_frames.specs.declared.fault.DocFault.{DocFault}
-use Rattle.obo_frames.specs.declared.fault.DocFault.TheVariants as fault
 use Rattle.obo_frames.proofs.DraftLemmas.{fault_found}
 use Rattle.obo_frames.proofs.SoundLemmas.{kept_all}
 use Rattle.obo_frames.proofs.read.judged.Goals as goal
@@ -22,23 +19,7 @@ returns-in-Some-clause-fault c =
     let found = fault_found _ _ c.in_ok-draft.draft read _ _ _ c.lost_at_end-lost.ensures (c.in_ok-short.ensures ∙ ap (λ placed. least_line None (short_lines placed)) c.as_slice.ensures.value) c.frame_fault.ensures in
     inl (of_frame read.tolds read.tells (found ∙ c.in-Some.is))
 
--- the fault of a line is the first of the file, or want of memory
-is_first : (limit : ℕ) (bytes : List ℕ) (found : DocFault) → IsTheLineFault limit bytes found → IsNoFault limit bytes found → (one : DocFault) → IsFirstFault limit bytes one → (found ≡ one) ⊎ (found ≡ fault.NoMemory)
-is_first limit bytes found first untold one (of_line fails) = first one fails
-is_first limit bytes found first untold one (of_frame tolds tells is) = inr (untold tolds tells)
-
-pub returns-in_err-draft-clause-read : goal.returns-in_err-draft-clause-read
-returns-in_err-draft-clause-read c placed is =
-    let p = err_from_is_err_and c.from_residual.result c.from_residual.ensures.1 in
-    inr (p.1 ∙ ap Err (p.2 ∙ c.in_err-draft.ensures.untold is.tolds is.tells))
-
 pub returns-in_err-draft-clause-fault : goal.returns-in_err-draft-clause-fault
 returns-in_err-draft-clause-fault c =
     let p = err_from_is_err_and c.from_residual.result c.from_residual.ensures.1 in
     rw (p.1, p.2) (⊎_elim (λ fails. inl (of_line fails)) (λ none. inr none) c.in_err-draft.ensures.fails)
-
-pub returns-in_err-draft-clause-refused : goal.returns-in_err-draft-clause-refused
-returns-in_err-draft-clause-refused c one is =
-    let p = err_from_is_err_and c.from_residual.result c.from_residual.ensures.1 in
-    ⊎_elim (λ same. inl (p.1 ∙ ap Err (p.2 ∙ same))) (λ none. inr (p.1 ∙ ap Err (p.2 ∙ none)))
-    (is_first c.args.line_limit c.args.bytes.now _ c.in_err-draft.ensures.first c.in_err-draft.ensures.untold one is)
