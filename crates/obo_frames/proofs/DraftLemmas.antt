@@ -4,8 +4,8 @@ use Rattle.obo_lexer.specs.Items.{lines_of}
 use Rattle.obo_lexer.specs.declared.line.LineItem.{LineItem}
 use Rattle.obo_frames.specs.Documents.{first_fault, frame_fault, least_line}
 use Rattle.obo_frames.specs.Groups.{short_lines}
-use Rattle.obo_frames.specs.Reading.{IsRead}
-use Rattle.obo_frames.specs.Standing.{behind_line, lost_at_end, lost_at_line, lost_from, placed_by_line, placed_from}
+use Rattle.obo_frames.specs.inner.Reading.{IsRead}
+use Rattle.obo_frames.specs.inner.Standing.{behind_line, lost_at_end, lost_at_line, lost_from, placed_by_line, placed_from}
 use Rattle.obo_frames.specs.Telling.{IsTold, behind, start}
 use Rattle.obo_frames.specs.declared.fault.DocFault.{DocFault}
 use Rattle.obo_frames.specs.declared.standing.Draft.{Draft}

@@ -12,7 +12,7 @@ use Rattle.obo_frames.specs.Documents.{least_line}
 use Rattle.obo_frames.specs.Framed.{unlined}
 use Rattle.obo_frames.specs.Naming.{space_of}
 use Rattle.obo_frames.specs.Groups.{differs, operands_in, same_expression, short_in, short_lines}
-use Rattle.obo_frames.specs.Summary.{is_one, joined, summary_of}
+use Rattle.obo_frames.specs.inner.Summary.{is_one, joined, summary_of}
 use Rattle.obo_frames.specs.declared.groups.Expression.{Expression}
 use Rattle.obo_frames.specs.declared.groups.Expression.TheVariants.{Class, Restriction}
 use Rattle.obo_frames.specs.declared.groups.Operand.{Operand}

@@ -13,7 +13,7 @@ use Rattle.obo_clause.specs.declared.line.Line.{Line}
 use Rattle.obo_clause.specs.declared.line.Line.TheVariants as says
 use Rattle.obo_frames.specs.Frames.{id_in, placed_of}
 use Rattle.obo_frames.specs.Laws.{IsSpelledByLine, LinesRise, LinesSpell}
-use Rattle.obo_frames.specs.Standing.{behind_line, place_first, placed_by_clause, placed_by_line, placed_from}
+use Rattle.obo_frames.specs.inner.Standing.{behind_line, place_first, placed_by_clause, placed_by_line, placed_from}
 use Rattle.obo_frames.specs.Telling.{Tells, behind, start}
 use Rattle.obo_frames.specs.declared.placed.Placed.{Placed}
 use Rattle.obo_frames.specs.declared.standing.Standing.{Standing}

@@ -9,7 +9,7 @@ use Rattle.obo_clause.specs.declared.line.Line.{Line}
 use Rattle.obo_clause.specs.declared.line.Line.TheVariants as says
 use Rattle.obo_frames.specs.Documents.{least_line}
 use Rattle.obo_frames.specs.Frames.{Entry, Frame, entries_before, frames_of, id_in, lacks_id, lines_without_id, place, place_all, place_id, placed_in, placed_of, with_entry, with_frame}
-use Rattle.obo_frames.specs.Standing.{behind_line, lost_at_line, lost_from, lost_unless, named, place_first, placed_by_line, placed_from}
+use Rattle.obo_frames.specs.inner.Standing.{behind_line, lost_at_line, lost_from, lost_unless, named, place_first, placed_by_line, placed_from}
 use Rattle.obo_frames.specs.declared.placed.Placed.{Placed}
 use Rattle.obo_frames.specs.declared.standing.Standing.{Standing}
 use Rattle.obo_frames.specs.declared.standing.Standing.TheVariants.{Begun, Header, Nameless, Within}

@@ -1,7 +1,7 @@
 -- Lines read one after the other are all told, up to the first faulty one.
 use Rattle.std.proofs.Common.{◌≡◌, ◌⊎◌, inl, inr, List, [], ◌∷◌, ◌++◌, append_assoc, append-nil, subst, sym}
 use Rattle.obo_lexer.specs.declared.line.LineItem.{LineItem}
-use Rattle.obo_frames.specs.Reading.{IsItemFault}
+use Rattle.obo_frames.specs.inner.Reading.{IsItemFault}
 use Rattle.obo_frames.specs.Telling.{FailsFirst, IsTold, Tells, behind, start}
 use Rattle.obo_frames.specs.declared.fault.DocFault.{DocFault}
 use Rattle.obo_frames.specs.declared.fault.DocFault.TheVariants as fault

@@ -26,7 +26,7 @@ use Rattle.obo_frames.specs.Documents.{first_fault, least_line}
 use Rattle.obo_frames.specs.Frames.{Entry, id_in, lines_without_id, place_id, placed_of, word_in}
 use Rattle.obo_frames.specs.Groups.{short_lines}
 use Rattle.obo_frames.specs.Soundness.{GivesId, HasIdClause, IsBare, IsKept}
-use Rattle.obo_frames.specs.Standing.{behind_clause, behind_line, named, place_first, placed_by_clause, placed_by_line, placed_from}
+use Rattle.obo_frames.specs.inner.Standing.{behind_clause, behind_line, named, place_first, placed_by_clause, placed_by_line, placed_from}
 use Rattle.obo_frames.specs.Telling.{BodySays, Tells, behind, start}
 use Rattle.obo_frames.specs.declared.placed.Placed.{Placed}
 use Rattle.obo_frames.specs.declared.standing.Standing.{Standing}

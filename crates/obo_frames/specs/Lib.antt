@@ -5,8 +5,6 @@ pub mod Frames
 pub mod Groups
 pub mod Laws
 pub mod Naming
-pub mod Reading
 pub mod Soundness
-pub mod Standing
-pub mod Summary
 pub mod Telling
+pub mod inner

@@ -6,7 +6,7 @@ ghost use Rattle.std.specs.Option.{option_copied};
 ghost use Rattle.std.specs.Ordering.{nat_cmp};
 ghost use Rattle.obo_frames.specs.Documents.{least_line};
 ghost use Rattle.obo_frames.specs.Groups as spec;
-ghost use Rattle.obo_frames.specs.Summary.{AddsOperand, IsSummaryOf, is_one, joined};
+ghost use Rattle.obo_frames.specs.inner.Summary.{AddsOperand, IsSummaryOf, is_one, joined};
 
 use crate::Placed;
 use crate::name::space_of;

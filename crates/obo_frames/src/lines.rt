@@ -2,7 +2,7 @@
 ghost use Rattle.std.specs.Prelude.{◌≡◌, ◌^◌, ◌<◌, IfErr, IfOk, false, length};
 ghost use Rattle.obo_lexer.specs.Items.{lines_of};
 ghost use Rattle.obo_frames.specs.Telling.{IsTold};
-ghost use Rattle.obo_frames.specs.Reading.{IsItemFault, IsLineFault, IsRead};
+ghost use Rattle.obo_frames.specs.inner.Reading.{IsItemFault, IsLineFault, IsRead};
 
 use crate::DocFault;
 use crate::standing::{Draft, empty_draft, placed_more};

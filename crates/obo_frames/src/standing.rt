@@ -4,7 +4,7 @@ ghost use Rattle.std.specs.Option.{option_copied};
 ghost use Rattle.obo_frames.specs.Documents.{least_line, lesser_line};
 ghost use Rattle.obo_frames.specs.Frames as spec;
 ghost use Rattle.obo_frames.specs.declared.standing.Standing.TheVariants.{Header, Within};
-ghost use Rattle.obo_frames.specs.Standing.{behind_clause, behind_line, lost_at_clause, lost_at_end, lost_at_line, lost_unless, named, place_first, placed_by_clause, placed_by_line};
+ghost use Rattle.obo_frames.specs.inner.Standing.{behind_clause, behind_line, lost_at_clause, lost_at_end, lost_at_line, lost_unless, named, place_first, placed_by_clause, placed_by_line};
 
 use crate::Placed;
 use crate::told::Told;

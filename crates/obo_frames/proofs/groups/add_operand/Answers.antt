@@ -2,7 +2,7 @@ use Rattle.std.proofs.Common.{Some, ap, cond, ◌∙◌}
 use Rattle.std.specs.BTreeMap.{get}
 use Rattle.std.specs.Cmp.Lexicographic.{slice_cmp}
 use Rattle.std.specs.Ordering.{is_eq, nat_cmp}
-use Rattle.obo_frames.specs.Summary.{joined}
+use Rattle.obo_frames.specs.inner.Summary.{joined}
 use Rattle.obo_frames.proofs.GroupLemmas.{joined_at, same_group}
 use Rattle.obo_frames.proofs.groups.add_operand.Goals as goal
 

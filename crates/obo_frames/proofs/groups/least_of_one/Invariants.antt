@@ -3,7 +3,7 @@ use Rattle.std.specs.BTreeMap.{get}
 use Rattle.std.specs.Cmp.Lexicographic.{slice_cmp}
 use Rattle.std.specs.Ordering.{nat_cmp}
 use Rattle.obo_frames.specs.Documents.{least_line}
-use Rattle.obo_frames.specs.Summary.{is_one}
+use Rattle.obo_frames.specs.inner.Summary.{is_one}
 use Rattle.obo_frames.proofs.groups.least_of_one.Given as goal
 
 abbrev pub invariant-loop-operand : goal.invariant-loop-operand

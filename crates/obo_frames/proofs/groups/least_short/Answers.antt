@@ -4,7 +4,7 @@ use Rattle.std.specs.Cmp.Lexicographic.{slice_cmp}
 use Rattle.std.specs.Ordering.{nat_cmp}
 use Rattle.obo_frames.specs.Documents.{least_line}
 use Rattle.obo_frames.specs.Groups.{short_in}
-use Rattle.obo_frames.specs.Summary.{is_one, summary_of}
+use Rattle.obo_frames.specs.inner.Summary.{is_one, summary_of}
 use Rattle.obo_frames.specs.declared.groups.Operand.{Operand}
 use Rattle.obo_frames.proofs.GroupLemmas.{one_is_short}
 use Rattle.obo_frames.proofs.groups.least_short.Goals as goal

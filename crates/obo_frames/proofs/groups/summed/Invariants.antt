@@ -2,7 +2,7 @@ use Rattle.std.proofs.Common.{◌≡◌, ℕ, List, None, drop}
 use Rattle.std.specs.BTreeMap.{get}
 use Rattle.std.specs.Cmp.Lexicographic.{slice_cmp}
 use Rattle.std.specs.Ordering.{nat_cmp}
-use Rattle.obo_frames.specs.Summary.{summary_of}
+use Rattle.obo_frames.specs.inner.Summary.{summary_of}
 use Rattle.obo_frames.proofs.groups.summed.Given as goal
 
 abbrev pub invariant-loop-operand : goal.invariant-loop-operand

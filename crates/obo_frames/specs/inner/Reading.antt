@@ -4,7 +4,7 @@ use Rattle.obo_lexer.specs.Items.{lines_of}
 use Rattle.obo_lexer.specs.declared.line.LineItem.{LineItem}
 use Rattle.obo_frames.specs.Documents.{least_line}
 use Rattle.obo_frames.specs.Frames.{lines_without_id, placed_of}
-use Rattle.obo_frames.specs.Standing.{lost_at_end}
+use Rattle.obo_frames.specs.inner.Standing.{lost_at_end}
 use Rattle.obo_frames.specs.Telling.{BodyFails, FailsFirst, Tells, start}
 use Rattle.obo_frames.specs.declared.fault.DocFault.{DocFault}
 use Rattle.obo_frames.specs.declared.fault.DocFault.TheVariants as fault
