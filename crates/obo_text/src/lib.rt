@@ -1,0 +1,7 @@
+//! The canonical text of a document: one text for each set of clauses in their frames. It is read back as the same clauses,
+//! and has the names of frames behind the ids that lead to them.
+#![tactic(auto)]
+
+mod laws;
+
+pub use laws::{text_is_of_set, text_is_settled, text_reads_back};
