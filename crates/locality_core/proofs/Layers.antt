@@ -1,5 +1,5 @@
 -- What one layer of an expression says of its size and its verdict.
-use Rattle.std.proofs.Common.{◌≡◌, ℕ, ◌<◌, ◌≤◌, ◌+◌, refl, ap, sym, ◌∙◌, List, [], ◌∷◌, arith, zero, suc, Option, Some, None, slice_get, Bool, true, false, ◌||◌, ◌&&◌, take, map, add-one}
+use Rattle.std.proofs.Common.{◌≡◌, ℕ, ◌<◌, ◌≤◌, ◌+◌, refl, ap, ◌∙◌, List, [], ◌∷◌, arith, zero, suc, Some, slice_get, Bool, true, false, ◌||◌, ◌&&◌, take, map, add-one}
 use Rattle.std.specs.List.{list_any, list_all}
 use Rattle.owl_axioms.specs.declared.expr.ClassExpr.{ClassExpr, out-ClassExpr, size-ClassExpr, size_is-ClassExpr}
 use Rattle.owl_axioms.specs.declared.expr.ClassExpr.TheOpen as layer

@@ -1,5 +1,5 @@
 -- What the loops over operands end with.
-use Rattle.std.proofs.Common.{◌≡◌, ℕ, ◌<◌, ◌≤◌, ◌+◌, List, [], ◌∷◌, Bool, take, length, map, refl, sym, ap, ◌∙◌, arith, cond, slice_get, get_or, Some, suc, zero}
+use Rattle.std.proofs.Common.{◌≡◌, ℕ, ◌<◌, ◌≤◌, List, [], ◌∷◌, Bool, take, length, map, refl, sym, ap, ◌∙◌, arith, cond, slice_get, get_or, Some, suc, zero}
 use Rattle.std.specs.List.{list_any, list_all}
 use Rattle.owl_axioms.specs.declared.expr.ClassExpr.{ClassExpr, out-ClassExpr, size-ClassExpr}
 use Rattle.owl_axioms.specs.declared.expr.ClassExpr.TheOpen as layer

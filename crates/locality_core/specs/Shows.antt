@@ -1,7 +1,6 @@
 -- What a look at a tree shows of the expression that it stands for. (Own.)
-use Rattle.std.specs.Prelude.{◌≡◌, ℕ, List, [], length, slice_get, Option}
+use Rattle.std.specs.Prelude.{◌≡◌, ℕ, List, [], length, slice_get}
 use Rattle.std.specs.declared.option.Option.TheVariants as option
-use Rattle.std.specs.Borrow.{Bor}
 use Rattle.owl_axioms.specs.declared.expr.ClassExpr.{ClassExpr, out-ClassExpr}
 use Rattle.owl_axioms.specs.declared.expr.ClassExpr.TheOpen as layer
 use Rattle.owl_axioms.specs.declared.expr.ClassExpr.TheOpen.{ClassExpr-F}

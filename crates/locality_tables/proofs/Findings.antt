@@ -1,15 +1,12 @@
 -- What a finding says of one element, and how it passes through each constructor.
-use Rattle.std.proofs.Common.{◌≡◌, ℕ, zero, suc, ◌+◌, ◌<◌, ◌≤◌, Bool, true, false, not, cond, ◌&&◌, ◌||◌, List, [], ◌∷◌, refl, sym, ap, subst, ◌∙◌, arith, if◌then◌else◌, ◌==◌, nat_le, le-leb, eqb-true, map, true≢false}
-use Rattle.std.specs.List.{list_any, list_all}
-use Rattle.std.proofs.lemmas.Bool.{cases_Bool}
+use Rattle.std.proofs.Common.{◌≡◌, ℕ, zero, suc, ◌<◌, ◌≤◌, Bool, true, false, not, cond, ◌&&◌, ◌||◌, refl, sym, ap, subst, ◌∙◌, arith, ◌==◌, nat_le, le-leb, eqb-true, true≢false}
 use Rattle.std.proofs.lemmas.Bool.Decides.{nat_tests}
-use Rattle.locality_tables.specs.declared.fills.RoleFill.{RoleFill}
 use Rattle.locality_tables.specs.declared.fills.RoleFill.TheVariants as role
 use Rattle.locality_tables.specs.declared.finding.Finding.{Finding}
 use Rattle.locality_tables.specs.declared.finding.Finding.TheVariants.{Empty, Full, Unknown}
 use Rattle.locality_tables.specs.declared.finding.RoleFinding.{RoleFinding}
 use Rattle.locality_tables.specs.declared.finding.RoleFinding.TheVariants.{Inside, Filled}
-use Rattle.locality_tables.specs.Verdict.{is_empty, is_full, is_empty_role, is_full_role, is_identity, exchanged, some_finding, all_finding, many_finding, min_finding, max_finding, exact_finding, one_finding, and_finding, or_finding}
+use Rattle.locality_tables.specs.Verdict.{is_empty, is_full, is_empty_role, is_full_role, is_identity, exchanged, some_finding, all_finding, many_finding, min_finding, max_finding, exact_finding, one_finding}
 use Rattle.owl_sem.specs.Interp.{number_of}
 use Rattle.locality_tables.specs.Fill.{role_holds}
 use Rattle.owl_sem.proofs.Counts.{none_of, some_of, one_of}

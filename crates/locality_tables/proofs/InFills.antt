@@ -1,5 +1,5 @@
 -- What verdicts and tests say of the fills of an interpretation.
-use Rattle.std.proofs.Common.{◌≡◌, ℕ, ◌<◌, ◌≤◌, true, false, List, sym, subst}
+use Rattle.std.proofs.Common.{◌<◌, ◌≤◌, subst}
 use Rattle.owl_axioms.specs.Names.{listed}
 use Rattle.locality_tables.specs.Fill.{fill}
 use Rattle.locality_tables.specs.Laws.{LocalHolds, VerdictsHold}

@@ -1,5 +1,5 @@
 -- Whether an axiom is local depends on what the signature tells of its names.
-use Rattle.std.proofs.Common.{◌≡◌, ℕ, Bool, true, false, not, ◌&&◌, ◌||◌, List, [], ◌∷◌, ◌++◌, cond, flat_map, map, refl, sym, ap, subst, ◌∙◌, true≢false}
+use Rattle.std.proofs.Common.{◌≡◌, ℕ, Bool, true, false, not, ◌&&◌, ◌||◌, List, [], ◌∷◌, cond, flat_map, map, refl, sym, ap, subst, ◌∙◌, true≢false}
 use Rattle.owl_axioms.specs.declared.body.Body.{Body}
 use Rattle.owl_axioms.specs.declared.body.Body.TheVariants as body
 use Rattle.owl_axioms.specs.declared.expr.ClassExpr.{ClassExpr}
@@ -7,16 +7,15 @@ use Rattle.owl_axioms.specs.declared.expr.ClassExpr.TheOpen.{ClassExpr-F}
 use Rattle.owl_axioms.specs.declared.expr.ClassExpr.TheFolds.{fold-roll-ClassExpr, ind-ClassExpr, map-ClassExpr}
 use Rattle.owl_axioms.specs.declared.expr.ClassExpr.TheViews.{roll-ClassExpr}
 use Rattle.owl_axioms.specs.declared.name.Kind.TheVariants as kind
-use Rattle.owl_axioms.specs.Names.{Scope, body_names, covers, names_in, names_step, one_role, two_roles}
+use Rattle.owl_axioms.specs.Names.{Scope, body_names, covers, names_in, names_step, two_roles}
 use Rattle.owl_axioms.proofs.Listed.{covers_append, covers_cons, names_layer}
 use Rattle.locality_tables.specs.Laws.{LocalDependsOnNames, same_of}
 use Rattle.locality_tables.specs.Local.{is_local, local_by}
 use Rattle.locality_tables.specs.Verdict.{all_finding, and_finding, class_finding, exact_finding, exchanged, is_empty, is_empty_role, is_full, is_full_role, is_identity, is_outside_role, max_finding, min_finding, or_finding, role_finding, some_finding, verdict, verdict_step}
 use Rattle.locality_tables.specs.declared.fills.ClassFill.{ClassFill}
 use Rattle.locality_tables.specs.declared.finding.Finding.{Finding}
-use Rattle.locality_tables.specs.declared.finding.Finding.TheVariants.{Empty, Full, Unknown}
+use Rattle.locality_tables.specs.declared.finding.Finding.TheVariants.{Unknown}
 use Rattle.locality_tables.specs.declared.fills.RoleFill.{RoleFill}
-use Rattle.locality_tables.specs.declared.finding.RoleFinding.{RoleFinding}
 use Rattle.locality_tables.specs.declared.finding.RoleFinding.TheVariants.{Filled, Inside}
 
 told_same : (x y : Bool) → cond x y (not y) ≡ true → x ≡ y

@@ -1,14 +1,14 @@
 -- A local axiom is satisfied wherever the names outside are filled, kind by kind.
-use Rattle.std.proofs.Common.{◌≡◌, ℕ, ◌<◌, ◌≤◌, ◌==◌, Bool, true, false, ◌&&◌, ◌||◌, List, [], ◌∷◌, refl, sym, ap, subst, ◌∙◌, arith, nat_lt, true≢false, eqb-true, cond}
+use Rattle.std.proofs.Common.{◌≡◌, ℕ, ◌<◌, ◌≤◌, ◌==◌, Bool, true, false, ◌&&◌, ◌||◌, List, [], ◌∷◌, refl, sym, subst, ◌∙◌, arith, nat_lt, true≢false, eqb-true, cond}
 use Rattle.std.specs.Str.{bytes_eq}
 use Rattle.std.proofs.lemmas.Bool.Decides.{nat_tests}
 use Rattle.owl_axioms.specs.declared.body.Body.{Body}
 use Rattle.owl_axioms.specs.declared.body.Body.TheVariants as body
 use Rattle.owl_axioms.specs.declared.expr.ClassExpr.{ClassExpr}
 use Rattle.owl_axioms.specs.declared.name.Kind.TheVariants as kind
-use Rattle.owl_sem.specs.Interp.{Interp, first_below, in_class, in_role, individual, member}
+use Rattle.owl_sem.specs.Interp.{Interp, first_below, in_role, individual, member}
 use Rattle.owl_sem.specs.Models.{Satisfies, SatisfiesChain}
-use Rattle.owl_axioms.specs.Names.{Scope, body_names, covers, names_in, one_role, two_roles}
+use Rattle.owl_axioms.specs.Names.{Scope, body_names, covers, names_in, two_roles}
 use Rattle.owl_axioms.proofs.Listed.{covers_append, covers_cons}
 use Rattle.owl_axioms.proofs.Tests.{all_three, both, by_either}
 use Rattle.locality_tables.specs.Fill.{IsFilled, role_holds}

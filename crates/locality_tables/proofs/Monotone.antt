@@ -1,5 +1,5 @@
 -- What is empty, full or local with more names inside is so with fewer.
-use Rattle.std.proofs.Common.{◌≡◌, ℕ, ◌==◌, Bool, true, false, ◌&&◌, ◌||◌, List, [], ◌∷◌, refl, sym, ap, subst, ◌∙◌, cond, map, true≢false, if◌then◌else◌}
+use Rattle.std.proofs.Common.{◌≡◌, ℕ, ◌==◌, Bool, true, false, ◌&&◌, ◌||◌, List, [], ◌∷◌, refl, sym, ap, subst, ◌∙◌, cond, map, true≢false}
 use Rattle.std.specs.List.{list_all, list_any}
 use Rattle.owl_axioms.specs.declared.body.Body.{Body}
 use Rattle.owl_axioms.specs.declared.body.Body.TheVariants as body
@@ -9,11 +9,11 @@ use Rattle.owl_axioms.specs.declared.expr.ClassExpr.TheFolds.{fold-ClassExpr, fo
 use Rattle.owl_axioms.specs.declared.expr.ClassExpr.TheViews.{roll-ClassExpr}
 use Rattle.owl_axioms.specs.declared.name.Kind.TheVariants as kind
 use Rattle.owl_axioms.specs.Names.{Scope, meaningful}
-use Rattle.owl_axioms.proofs.Tests.{both, by_either}
+use Rattle.owl_axioms.proofs.Tests.{both}
 use Rattle.owl_sem.specs.Laws.{Within}
 use Rattle.locality_tables.specs.Laws.{TestsStayAlways, VerdictsStayAlways}
 use Rattle.locality_tables.specs.Local.{is_local, local_by}
-use Rattle.locality_tables.specs.Verdict.{all_finding, and_finding, class_finding, exact_finding, one_finding, exchanged, is_empty, is_empty_role, is_full, is_full_role, is_identity, is_outside_role, many_finding, max_finding, min_finding, or_finding, role_finding, some_finding, verdict, verdict_step}
+use Rattle.locality_tables.specs.Verdict.{all_finding, class_finding, exact_finding, one_finding, exchanged, is_empty, is_empty_role, is_full, is_full_role, is_identity, is_outside_role, many_finding, max_finding, min_finding, role_finding, some_finding, verdict, verdict_step}
 use Rattle.locality_tables.specs.declared.fills.ClassFill.{ClassFill}
 use Rattle.locality_tables.specs.declared.finding.Finding.{Finding}
 use Rattle.locality_tables.specs.declared.finding.Finding.TheVariants.{Empty, Full, Unknown}

@@ -1,13 +1,12 @@
 -- The rows of the table of verdicts, one constructor each, and the worked tables.
-use Rattle.std.proofs.Common.{◌≡◌, ℕ, Bool, true, false, not, ◌&&◌, ◌||◌, List, [], ◌∷◌, map, if◌then◌else◌, refl, sym, ap, ◌∙◌}
-use Rattle.owl_axioms.specs.Names.{Scope, listed}
+use Rattle.std.proofs.Common.{◌≡◌, ℕ, ◌&&◌, ◌||◌, List, [], ◌∷◌, refl, sym, ap, ◌∙◌}
+use Rattle.owl_axioms.specs.Names.{listed}
 use Rattle.owl_axioms.specs.declared.expr.ClassExpr.{ClassExpr}
 use Rattle.owl_axioms.specs.declared.expr.ClassExpr.TheFolds.{fold-roll-ClassExpr, map-ClassExpr}
 use Rattle.owl_axioms.specs.declared.expr.ClassExpr.TheOpen.{ClassExpr-F}
 use Rattle.owl_axioms.specs.declared.expr.ClassExpr.TheVariants as expr
 use Rattle.owl_axioms.specs.declared.expr.ClassExpr.TheViews.{roll-ClassExpr}
-use Rattle.owl_axioms.specs.declared.name.Kind.TheVariants as kind
-use Rattle.locality_tables.specs.Examples.{A, B, LocalTable, VerdictTable, far_class, far_role, inside, near_class, near_role, q, r}
+use Rattle.locality_tables.specs.Examples.{A, B, LocalTable, VerdictTable, far_class, inside, near_class, q, r}
 use Rattle.locality_tables.specs.Local.{is_local, local_by}
 use Rattle.locality_tables.specs.Verdict.{all_finding, and_finding, class_finding, exact_finding, exchanged, is_empty, is_empty_role, is_full, max_finding, min_finding, or_finding, role_finding, some_finding, verdict, verdict_step}
 use Rattle.locality_tables.specs.declared.fills.ClassFill.{ClassFill}

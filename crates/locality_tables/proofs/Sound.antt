@@ -1,21 +1,19 @@
 -- A verdict says what holds in each filled interpretation, by induction on the expression.
-use Rattle.std.proofs.Common.{◌≡◌, ℕ, zero, suc, ◌+◌, ◌<◌, ◌≤◌, Bool, true, false, not, cond, ◌&&◌, ◌||◌, List, [], ◌∷◌, refl, sym, ap, subst, ◌∙◌, arith, if◌then◌else◌, map, ◌==◌, true≢false, nat_le, nat_lt, flat_map}
+use Rattle.std.proofs.Common.{◌≡◌, ℕ, ◌<◌, Bool, true, false, cond, ◌&&◌, ◌||◌, List, [], ◌∷◌, refl, sym, ap, subst, ◌∙◌, arith, map, true≢false, nat_lt, flat_map}
 use Rattle.std.specs.List.{list_any, list_all}
-use Rattle.std.proofs.lemmas.Bool.{cases_Bool}
 use Rattle.owl_axioms.specs.declared.expr.ClassExpr.{ClassExpr}
 use Rattle.owl_axioms.specs.declared.expr.ClassExpr.TheOpen as layer
 use Rattle.owl_axioms.specs.declared.expr.ClassExpr.TheOpen.{ClassExpr-F}
-use Rattle.owl_axioms.specs.declared.expr.ClassExpr.TheFolds.{fold-ClassExpr, fold-roll-ClassExpr, ind-ClassExpr, map-ClassExpr}
+use Rattle.owl_axioms.specs.declared.expr.ClassExpr.TheFolds.{fold-roll-ClassExpr, ind-ClassExpr, map-ClassExpr}
 use Rattle.owl_axioms.specs.declared.expr.ClassExpr.TheViews.{roll-ClassExpr}
 use Rattle.locality_tables.specs.declared.fills.ClassFill.{ClassFill}
 use Rattle.locality_tables.specs.declared.fills.ClassFill.TheVariants as class
 use Rattle.locality_tables.specs.declared.fills.RoleFill.{RoleFill}
 use Rattle.locality_tables.specs.declared.finding.Finding.{Finding}
-use Rattle.locality_tables.specs.declared.finding.Finding.TheVariants.{Empty, Full, Unknown}
-use Rattle.locality_tables.specs.declared.finding.RoleFinding.{RoleFinding}
+use Rattle.locality_tables.specs.declared.finding.Finding.TheVariants.{Empty, Full}
 use Rattle.locality_tables.specs.declared.finding.RoleFinding.TheVariants.{Inside, Filled}
-use Rattle.locality_tables.specs.Verdict.{verdict, verdict_step, role_finding, class_finding, is_empty, is_full, and_finding, or_finding}
-use Rattle.owl_sem.specs.Interp.{Interp, member, member_step, in_role, in_class, number_of}
+use Rattle.locality_tables.specs.Verdict.{verdict, verdict_step, role_finding, class_finding, is_empty, is_full}
+use Rattle.owl_sem.specs.Interp.{Interp, member, member_step, in_role}
 use Rattle.locality_tables.specs.Fill.{IsFilled, role_holds}
 use Rattle.owl_axioms.specs.declared.name.Kind.TheVariants as kind
 use Rattle.owl_axioms.specs.Names.{Scope, covers, names_in, names_step}

@@ -1,6 +1,6 @@
 -- What the tables of locality amount to. (After Cuenca Grau, Horrocks, Kazakov and Sattler, JAIR 31 (2008), section 5; the
 -- fill of finite interpretations is our own.)
-use Rattle.std.specs.Prelude.{ℕ, ◌≡◌, ◌<◌, ◌≤◌, Bool, true, false, not, if◌then◌else◌, List}
+use Rattle.std.specs.Prelude.{ℕ, ◌≡◌, ◌<◌, ◌≤◌, true, false, not, if◌then◌else◌, List}
 use Rattle.owl_axioms.specs.Names.{Scope, body_names, covers, listed, names_in}
 use Rattle.owl_axioms.specs.declared.body.Body.{Body}
 use Rattle.owl_axioms.specs.declared.expr.ClassExpr.{ClassExpr}

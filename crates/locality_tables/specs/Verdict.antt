@@ -2,7 +2,7 @@
 -- table, one constructor a row. (After Cuenca Grau, Horrocks, Kazakov and Sattler, JAIR 31 (2008), section 5, where a
 -- grammar gives the expressions that are empty and those that are full; the rows for
 -- number restrictions, and those for roles that are full or the identity, are our own.)
-use Rattle.std.specs.Prelude.{◌≡◌, ℕ, zero, suc, Bool, true, false, not, ◌&&◌, ◌||◌, List, [], ◌∷◌, map, if◌then◌else◌, ◌==◌}
+use Rattle.std.specs.Prelude.{ℕ, Bool, true, false, ◌&&◌, ◌||◌, List, if◌then◌else◌, ◌==◌}
 use Rattle.std.specs.List.{list_any, list_all}
 use Rattle.owl_axioms.specs.Names.{Scope}
 use Rattle.owl_axioms.specs.declared.expr.ClassExpr.{ClassExpr}

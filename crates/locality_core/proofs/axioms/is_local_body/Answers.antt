@@ -1,4 +1,4 @@
-use Rattle.std.proofs.Common.{◌≡◌, sym, ap, ◌∙◌, ◌&&◌, ◌||◌}
+use Rattle.std.proofs.Common.{sym, ap, ◌∙◌, ◌&&◌, ◌||◌}
 use Rattle.owl_axioms.specs.Signature.{scope_of}
 use Rattle.locality_tables.specs.Local.{is_local, local_by}
 use Rattle.locality_tables.specs.Verdict.{is_empty, is_empty_role, is_full}

@@ -1,7 +1,6 @@
-use Rattle.std.proofs.Common.{rules, arith, sym, ap, subst, ◌∙◌, ◌≡◌, ℕ, ◌<◌, ◌≤◌, take, length, map, refl, true, false, ◌||◌, ◌&&◌}
-use Rattle.std.specs.List.{list_any, list_all}
+use Rattle.std.proofs.Common.{rules, arith, sym, ◌∙◌}
 use Rattle.owl_axioms.specs.declared.expr.ClassExpr.TheOpen as layer
-use Rattle.locality_tables.specs.Verdict.{verdict, is_empty, is_full, exchanged, some_finding, all_finding, min_finding, max_finding, exact_finding, role_finding, class_finding}
+use Rattle.locality_tables.specs.Verdict.{verdict, is_empty, is_full}
 use Rattle.locality_core.proofs.Layers.{size_not, size_some, size_all, size_min, size_max, size_exact, verdict_at, any_more, all_more}
 use Rattle.locality_core.specs.Shows.{operands, IsOperand}
 use Rattle.locality_core.proofs.Operands.{and_within, and_smaller, and_verdict, or_within, or_smaller, or_verdict}
