@@ -16,6 +16,6 @@ pub use body::{Axiom, Body};
 pub use expr::ClassExpr;
 pub use laws::equality_is_sameness;
 pub use name::{Kind, Name};
-pub use naming::sig_of;
+pub use naming::{is_signed, sig_of};
 pub use sig::Sig;
 pub use sig_laws::adding_is_union;

@@ -1,0 +1,51 @@
+-- A module keeps the axioms that it was taken from.
+use Rattle.std.proofs.Common.{◌≡◌, Contains, ◌≤◌, ℕ, Bool, true, false, not, ◌&&◌, ◌||◌, List, Some, slice_get, refl, sym, ap, subst, ◌∙◌}
+use Rattle.owl_axioms.specs.declared.body.Axiom.{Axiom}
+use Rattle.owl_axioms.specs.declared.name.Kind.{Kind}
+use Rattle.owl_axioms.specs.declared.name.Name.{Name}
+use Rattle.owl_ontology.specs.Ontology.{flagged}
+use Rattle.owl_sem.specs.Interp.{Interp}
+use Rattle.owl_sem.specs.Models.{Agrees, IsModel, Keeps, Satisfies}
+use Rattle.owl_axioms.specs.Names.{Scope, body_names, covers, either, listed, names_of}
+use Rattle.owl_sem.proofs.Depends.{satisfaction_depends}
+use Rattle.owl_sem.proofs.Keeps.{agrees_less}
+use Rattle.owl_axioms.proofs.Listed.{covers_axiom, covers_from, covers_listed, listed_in, name_of_axiom}
+use Rattle.locality_tables.specs.Fill.{fill, is_outside}
+use Rattle.locality_tables.proofs.FillLaws.{fills_names}
+use Rattle.locality_tables.proofs.LocalSound.{local_sound}
+use Rattle.module_extract.specs.Laws.{ClosedExtends, ClosedKeeps}
+use Rattle.module_extract.specs.Module.{Fills, IsClosed, seed_and}
+use Rattle.module_extract.proofs.Flags.{at_place, by_flag, in_part, place_of}
+
+not_outside : (l s : Bool) → s ≡ true → not (l && not s) ≡ true
+not_outside true s h = ap (λ b. not (not b)) h
+not_outside false s h = refl
+
+either_right : (x y : Bool) → y ≡ true → (x || y) ≡ true
+either_right true y h = refl
+either_right false y h = h
+
+pub closed_extends : ClosedExtends
+closed_extends k axioms part seed kept closed names covering i m =
+    let inside : Scope = seed_and seed axioms kept in
+    let j : Interp = fill k.classes k.roles inside names i in
+    let laws = fills_names k.classes k.roles inside names i in
+    let agree : Agrees i j inside = agrees_less i j (λ n a. not (is_outside inside names n a)) inside (λ n a h. not_outside (listed names n a) (inside n a) h) laws.1 in
+    let some = subst (λ n. 1 ≤ n) agree.sizes m.some in (
+      record {
+        some = some;
+        each = λ a h. place_of part axioms a h (λ at p q. by_flag kept axioms a at closed.same_length p
+            (λ flag. let is : Contains (flagged kept axioms) a = at_place kept axioms a at p flag in
+            satisfaction_depends inside i j agree a.body (covers_from inside (body_names a.body) (λ n l. either_right (seed n.kind n.iri) _ (listed_in (names_of (flagged kept axioms)) n (name_of_axiom (flagged kept axioms) a n is l)))) (m.each a is))
+            (λ flag. local_sound k.classes k.roles inside (listed names) j laws.0 some a.body (covers_axiom (listed names) (flagged part axioms) a covering h) (closed.outside at a p q flag)));
+      },
+      agree,
+    )
+
+pub closed_keeps : ClosedKeeps
+closed_keeps k axioms part seed kept closed = record {
+  follows = λ i m. record { some = m.some; each = λ a h. m.each a (in_part kept part axioms closed.is_part a h) };
+  extends = λ i m.
+      let names = names_of (flagged part axioms) in
+      (fill k.classes k.roles (seed_and seed axioms kept) names i, closed_extends k axioms part seed kept closed names (covers_listed names) i m);
+}
