@@ -5,4 +5,4 @@ mod laws;
 mod printer;
 
 pub use laws::{printed_line_spells_again, spelled_clauses_fit};
-pub use printer::print_clause;
+pub use printer::{print_clause, push_qualifier, push_xref};

@@ -235,8 +235,8 @@ fn push_other_xref(out: &mut Vec<u8>, xref: &Xref) -> Result<(), NoMemory>
     push_xref(out, xref)
 }
 
-/// Appends an xref.
-fn push_xref(out: &mut Vec<u8>, xref: &Xref) -> Result<(), NoMemory>
+/// Appends an xref. It takes time in proportion to what is appended.
+pub fn push_xref(out: &mut Vec<u8>, xref: &Xref) -> Result<(), NoMemory>
     ensures { OnOk result (out.new.items ≡ out.old.items ++ spec.xref_text xref.now) }
 {
     push_word(out, xref.id.as_slice())?;
@@ -282,8 +282,8 @@ fn push_other_qualifier(out: &mut Vec<u8>, qualifier: &Qualifier) -> Result<(), 
     push_qualifier(out, qualifier)
 }
 
-/// Appends a qualifier, its value in quotes.
-fn push_qualifier(out: &mut Vec<u8>, qualifier: &Qualifier) -> Result<(), NoMemory>
+/// Appends a qualifier, its value in quotes. It takes time in proportion to what is appended.
+pub fn push_qualifier(out: &mut Vec<u8>, qualifier: &Qualifier) -> Result<(), NoMemory>
     ensures { OnOk result (out.new.items ≡ out.old.items ++ spec.qualifier_text qualifier.now) }
 {
     out.extend_from_slice(qualifier.key.as_slice())?;

@@ -104,7 +104,7 @@ each_some-back part back stands (x ∷ xs) ys is =
     let tail = each_some-back part back stands xs more.0 more.1 in
     ap (map back) (sym more.2) ∙ (λ i. stands x first.0 first.1 i ∷ tail i)
 
-some_value : {X : Type 0} (o : Option X) → IsSome o → (x : X) × (o ≡ Some x)
+pub some_value : {X : Type 0} (o : Option X) → IsSome o → (x : X) × (o ≡ Some x)
 some_value None some = let h : false ≡ true = some in absurd (cc)
 some_value (Some x) some = (x, refl)
 
@@ -115,3 +115,24 @@ each_some-some part (x ∷ xs) all =
     let more = some_value (each_some part xs) (each_some-some part xs (λ y later. all y (inr later))) in
     subst (λ o. IsSome (option_and_then (λ y. option_map (λ ys. y ∷ ys) (each_some part xs)) o)) (sym here.1)
     (subst (λ o. IsSome (option_map (λ ys. here.0 ∷ ys) o)) (sym more.1) refl)
+
+-- each part is of an item, and each item has its part
+pub each_some-parts : {X Y : Type 0} (part : X → Option Y) (xs : List X) (ys : List Y) → each_some part xs ≡ Some ys → (y : Y) → In y ys → (x : X) × In x xs × (part x ≡ Some y)
+each_some-parts part [] ys is y here = absurd (subst (In y) (sym (same_Some [] ys is)) here)
+each_some-parts part (x ∷ xs) ys is y here =
+    let first = option_and_then_some (λ z. option_map (λ more. z ∷ more) (each_some part xs)) (part x) ys is in
+    let more = option_map_some (λ zs. first.0 ∷ zs) (each_some part xs) ys first.2 in
+    ⊎_elim
+    (λ same. (x, inl refl, first.1 ∙ ap Some same))
+    (λ later. let found = each_some-parts part xs more.0 more.1 y later in (found.0, inr found.1, found.2))
+    (subst (In y) (sym more.2) here)
+
+pub each_some-items : {X Y : Type 0} (part : X → Option Y) (xs : List X) (ys : List Y) → each_some part xs ≡ Some ys → (x : X) → In x xs → (y : Y) × In y ys × (part x ≡ Some y)
+each_some-items part [] ys is x here = absurd here
+each_some-items part (z ∷ xs) ys is x here =
+    let first = option_and_then_some (λ w. option_map (λ more. w ∷ more) (each_some part xs)) (part z) ys is in
+    let more = option_map_some (λ zs. first.0 ∷ zs) (each_some part xs) ys first.2 in
+    ⊎_elim
+    (λ same. (first.0, subst (In first.0) more.2 (inl refl), ap part (sym same) ∙ first.1))
+    (λ later. let found = each_some-items part xs more.0 more.1 x later in (found.0, subst (In found.0) more.2 (inr found.1), found.2))
+    here

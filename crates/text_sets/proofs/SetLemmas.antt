@@ -42,11 +42,11 @@ In-from_flat_map spell c (z ∷ xs) here =
     (λ later. let found = In-from_flat_map spell c xs later in (found.0, inr found.1, found.2))
     (In-append c (spell z) (flat_map spell xs) here)
 
-pub In-filter_map : {C A : Type 0} (say : C → Option A) (c : C) (a : A) (cs : List C) → In c cs → say c ≡ Some a → In a (filter_map say cs)
-In-filter_map say c a [] here is = absurd here
-In-filter_map say c a (z ∷ cs) (inl same) is = subst (λ o. In a (cons_option o (filter_map say cs))) (sym (ap say same ∙ is)) (inl refl)
-In-filter_map say c a (z ∷ cs) (inr later) is =
-    let rest = In-filter_map say c a cs later is in
+pub In-filter_map : {C A : Type 0} (say : C → Option A) (a : A) (cs : List C) (c : C) → In c cs → say c ≡ Some a → In a (filter_map say cs)
+In-filter_map say a [] c here is = absurd here
+In-filter_map say a (z ∷ cs) c (inl same) is = subst (λ o. In a (cons_option o (filter_map say cs))) (sym (ap say same ∙ is)) (inl refl)
+In-filter_map say a (z ∷ cs) c (inr later) is =
+    let rest = In-filter_map say a cs c later is in
     elim (say z) as (λ o. In a (cons_option o (filter_map say cs))) [
       | None ↦ rest
       | Some b ↦ inr rest
@@ -95,6 +95,15 @@ contains-from_In x (y ∷ ys) (inr later) = Contains-append_right (y ∷ []) ys 
 
 -- ---- the same members
 
+pub same_refl : {X : Type 0} (a : List X) → SameMembers a a
+same_refl a x = ((λ h. h), (λ h. h))
+
+pub same_append : {X : Type 0} (a b c d : List X) → SameMembers a c → SameMembers b d → SameMembers (a ++ b) (c ++ d)
+same_append a b c d one other x = (
+  (λ here. ⊎_elim (λ p. In-append_left x c d ((one x).0 p)) (λ q. In-append_right x c d ((other x).0 q)) (In-append x a b here)),
+  (λ here. ⊎_elim (λ p. In-append_left x a b ((one x).1 p)) (λ q. In-append_right x a b ((other x).1 q)) (In-append x c d here)),
+)
+
 pub same_sym : {X : Type 0} (a b : List X) → SameMembers a b → SameMembers b a
 same_sym a b same x = ((same x).1, (same x).0)
 
@@ -109,6 +118,6 @@ same_map f a b same y = (
 
 pub same_filter_map : {X Y : Type 0} (f : X → Option Y) (a b : List X) → SameMembers a b → SameMembers (filter_map f a) (filter_map f b)
 same_filter_map f a b same y = (
-  (λ here. let x = In-from_filter_map f y a here in In-filter_map f x.0 y b ((same x.0).0 x.1) x.2),
-  (λ here. let x = In-from_filter_map f y b here in In-filter_map f x.0 y a ((same x.0).1 x.1) x.2),
+  (λ here. let x = In-from_filter_map f y a here in In-filter_map f y b x.0 ((same x.0).0 x.1) x.2),
+  (λ here. let x = In-from_filter_map f y b here in In-filter_map f y a x.0 ((same x.0).1 x.1) x.2),
 )
