@@ -1,7 +1,9 @@
 #!/usr/bin/env bash
+# bench/feed_lines.sh [TIMES]
 # Feeds texts of 10, 100 and 250 MB to a `LineFeeder`, and prints the time of each: lines of 40 bytes and one
-# single line, in pieces of 64 KB and of one byte. The time is to grow with the text alone. The program that
-# does it is proved and built in a temporary copy of the two crates, without their `out`, which is deleted at the end.
+# single line, in pieces of 64 KB and of one byte. The time is to grow with the text alone. With TIMES it does all
+# that so often. The program that does it is proved and built in a temporary copy of the two crates, without their
+# `out`, which is deleted at the end.
 set -e
 top=$(cd "$(dirname "$0")/.." && pwd)
 copy=$(mktemp -d)
@@ -137,3 +139,6 @@ if ! rt run > "$copy/log" 2>&1 </dev/null; then
   exit 1
 fi
 grep " bytes in pieces of " "$copy/log"
+for ((turn = 2; turn <= ${1:-1}; turn++)); do
+  out/feed_lines
+done

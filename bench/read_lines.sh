@@ -1,7 +1,8 @@
 #!/usr/bin/env bash
+# bench/read_lines.sh [TIMES]
 # Reads hostile lines of 100,000 and 1,000,000 bytes, and prints the time of each: ten times the bytes are to take some ten
-# times as long, whatever stands in the line. The program that does it is proved and built in a temporary copy of the crates,
-# without their `out`, which is deleted at the end.
+# times as long, whatever stands in the line. With TIMES it does all that so often. The program that does it is proved and
+# built in a temporary copy of the crates, without their `out`, which is deleted at the end.
 set -e
 top=$(cd "$(dirname "$0")/.." && pwd)
 copy=$(mktemp -d)
@@ -97,4 +98,6 @@ if [ ! -x out/read_lines ]; then
   tail -n 20 "$copy/log" >&2
   exit 1
 fi
-out/read_lines
+for ((turn = 1; turn <= ${1:-1}; turn++)); do
+  out/read_lines
+done
