@@ -24,7 +24,7 @@ use Rattle.obo_clause.specs.declared.clause.Scope.TheVariants as scope
 use Rattle.obo_clause.specs.declared.clause.Value.{Value}
 use Rattle.obo_clause.specs.declared.clause.Value.TheVariants as value
 use Rattle.obo_clause.specs.declared.clause.Xref.{Xref}
-use Rattle.clause_printer.specs.Laws.{FitsQualifier, FitsShape, FitsXref, IsTextOrNone, IsWordOrNone}
+use Rattle.obo_clause.specs.Fits.{FitsQualifier, FitsShape, FitsXref, IsTextOrNone, IsWordOrNone}
 use Rattle.clause_printer.specs.Printing.{qualifier_text}
 use Rattle.owl_axioms.specs.Text.{rdfs_label, side_text}
 use Rattle.owl_axioms.specs.declared.annotation.NoteValue.{NoteValue}
