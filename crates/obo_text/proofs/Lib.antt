@@ -2,6 +2,12 @@ pub mod BackLemmas
 pub mod LawLemmas
 pub mod LineLemmas
 pub mod MemberLemmas
+pub mod NameLemmas
+pub mod OnceLemmas
+pub mod PlaceLemmas
 pub mod ReadLemmas
+pub mod RowLemmas
+pub mod RowsText
+pub mod RunLemmas
 pub mod SetLaw
 pub mod SoundLemmas

@@ -43,7 +43,7 @@ same_kind_is kinds.Instance kinds.Term h = absurd (cc)
 same_kind_is kinds.Instance kinds.Typedef h = absurd (cc)
 same_kind_is kinds.Instance kinds.Instance h = refl
 
-same_kind_itself : (one : FrameKind) → same_kind one one ≡ true
+pub same_kind_itself : (one : FrameKind) → same_kind one one ≡ true
 same_kind_itself kinds.Header = refl
 same_kind_itself kinds.Term = refl
 same_kind_itself kinds.Typedef = refl

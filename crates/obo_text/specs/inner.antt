@@ -1,0 +1,3 @@
+pub mod Names
+pub mod RowOrder
+pub mod Rows
