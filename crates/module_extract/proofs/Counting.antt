@@ -1,5 +1,5 @@
 -- Counts of flags, and parts with fewer.
-use Rattle.std.proofs.Common.{◌≡◌, ℕ, zero, suc, ◌+◌, ◌<◌, ◌≤◌, ◌⊎◌, inl, inr, Bool, true, false, List, [], ◌∷◌, ◌++◌, Some, add-one, slice_get, slice_index_or, length, map, take, refl, sym, ap, subst, ◌∙◌, arith, true≢false, if◌then◌else◌, cond}
+use Rattle.std.proofs.Common.{◌≡◌, ℕ, zero, suc, ◌+◌, ◌<◌, ◌≤◌, ◌⊎◌, inl, inr, Bool, true, false, List, [], ◌∷◌, ◌++◌, Some, add-one, slice_get, length, map, take, refl, sym, ap, ◌∙◌, arith, true≢false, if◌then◌else◌}
 use Rattle.owl_axioms.specs.declared.body.Axiom.{Axiom}
 use Rattle.rel_io.proofs.Options.{none_there, same_there}
 use Rattle.module_extract.specs.Module.{IsPart, logical_flags, on_count}

@@ -1,12 +1,9 @@
 -- A module keeps the axioms that it was taken from.
-use Rattle.std.proofs.Common.{◌≡◌, Contains, ◌≤◌, ℕ, Bool, true, false, not, ◌&&◌, ◌||◌, List, Some, slice_get, refl, sym, ap, subst, ◌∙◌}
-use Rattle.owl_axioms.specs.declared.body.Axiom.{Axiom}
-use Rattle.owl_axioms.specs.declared.name.Kind.{Kind}
-use Rattle.owl_axioms.specs.declared.name.Name.{Name}
+use Rattle.std.proofs.Common.{◌≡◌, Contains, ◌≤◌, Bool, true, false, not, ◌&&◌, ◌||◌, refl, ap, subst}
 use Rattle.owl_ontology.specs.Ontology.{flagged}
 use Rattle.owl_sem.specs.Interp.{Interp}
-use Rattle.owl_sem.specs.Models.{Agrees, IsModel, Keeps, Satisfies}
-use Rattle.owl_axioms.specs.Names.{Scope, body_names, covers, either, listed, names_of}
+use Rattle.owl_sem.specs.Models.{Agrees}
+use Rattle.owl_axioms.specs.Names.{Scope, body_names, listed, names_of}
 use Rattle.owl_sem.proofs.Depends.{satisfaction_depends}
 use Rattle.owl_sem.proofs.Keeps.{agrees_less}
 use Rattle.owl_axioms.proofs.Listed.{covers_axiom, covers_from, covers_listed, listed_in, name_of_axiom}
@@ -14,7 +11,7 @@ use Rattle.locality_tables.specs.Fill.{fill, is_outside}
 use Rattle.locality_tables.proofs.FillLaws.{fills_names}
 use Rattle.locality_tables.proofs.LocalSound.{local_sound}
 use Rattle.module_extract.specs.Laws.{ClosedExtends, ClosedKeeps}
-use Rattle.module_extract.specs.Module.{Fills, IsClosed, seed_and}
+use Rattle.module_extract.specs.Module.{seed_and}
 use Rattle.module_extract.proofs.Flags.{at_place, by_flag, in_part, place_of}
 
 not_outside : (l s : Bool) → s ≡ true → not (l && not s) ≡ true

@@ -1,8 +1,8 @@
 -- What is flagged, by its place among all.
-use Rattle.std.proofs.Common.{◌≡◌, ℕ, zero, suc, Bool, true, false, ◌||◌, List, [], ◌∷◌, Contains, None, Some, Option, slice_get, length, refl, sym, ap, subst, ◌∙◌, arith, true≢false}
+use Rattle.std.proofs.Common.{◌≡◌, ℕ, zero, suc, Bool, true, false, ◌||◌, List, [], ◌∷◌, Contains, Some, slice_get, length, refl, sym, ap, subst, arith, true≢false}
 use Rattle.owl_ontology.specs.Ontology.{flagged}
 use Rattle.owl_axioms.proofs.Listed.{by_place, fewer_names, here, later, not_in_nothing}
-use Rattle.owl_axioms.specs.Names.{Scope, listed, names_of}
+use Rattle.owl_axioms.specs.Names.{Scope}
 use Rattle.owl_axioms.specs.declared.body.Axiom.{Axiom}
 use Rattle.owl_axioms.specs.declared.name.Kind.{Kind}
 use Rattle.module_extract.specs.Module.{IsPart, seed_and}

@@ -1,6 +1,6 @@
 -- What is shipped with a part: its names and flags axiom by axiom, and that it keeps all axioms where the part keeps the
 -- logical ones.
-use Rattle.std.proofs.Common.{◌≡◌, ℕ, zero, suc, ◌+◌, add-one, Bool, true, false, not, ◌&&◌, ◌||◌, List, [], ◌∷◌, ◌++◌, Contains, Some, take, map, slice_get, length, if◌then◌else◌, refl, sym, ap, subst, ◌∙◌, arith, true≢false}
+use Rattle.std.proofs.Common.{◌≡◌, ℕ, zero, suc, ◌+◌, add-one, Bool, true, false, not, ◌&&◌, ◌||◌, List, [], ◌∷◌, ◌++◌, Contains, Some, take, slice_get, if◌then◌else◌, refl, sym, ap, ◌∙◌, true≢false}
 use Rattle.rel_io.proofs.Options.{none_there, same_there}
 use Rattle.owl_axioms.specs.Names.{Scope, body_names, has_meaning, is_signed, listed, names_of}
 use Rattle.owl_axioms.specs.Signature.{SigState, added, scope_of}
@@ -11,10 +11,10 @@ use Rattle.owl_axioms.specs.declared.name.Kind.{Kind}
 use Rattle.owl_axioms.specs.declared.name.Kind.TheVariants as kind
 use Rattle.owl_axioms.specs.declared.name.Name.{Name}
 use Rattle.owl_axioms.proofs.Adding.{added_append, append_none, flat_append}
-use Rattle.owl_axioms.proofs.Listed.{at_in, in_at, by_place, here, later, not_in_nothing}
+use Rattle.owl_axioms.proofs.Listed.{at_in, in_at}
 use Rattle.owl_axioms.proofs.Signatures.{scope_added}
 use Rattle.owl_ontology.specs.Ontology.{flagged}
-use Rattle.owl_sem.specs.Models.{IsModel, Keeps, is_logical}
+use Rattle.owl_sem.specs.Models.{IsModel, is_logical}
 use Rattle.owl_sem.proofs.Keeps.{satisfied_unless}
 use Rattle.module_extract.specs.Laws.{ShippedKeeps}
 use Rattle.module_extract.specs.Module.{logical_flags, seed_and}

@@ -1,14 +1,14 @@
 -- Without flags nothing is flagged.
-use Rattle.std.proofs.Common.{◌≡◌, ℕ, zero, suc, Bool, true, false, ◌&&◌, ◌||◌, List, [], ◌∷◌, Some, slice_get, length, map, replicate, refl, sym, ap, subst, ◌∙◌, arith, true≢false}
+use Rattle.std.proofs.Common.{◌≡◌, ℕ, zero, suc, Bool, true, false, ◌&&◌, ◌||◌, List, [], ◌∷◌, Some, slice_get, length, replicate, refl, sym, ap, subst, ◌∙◌, arith, true≢false}
 use Rattle.std.proofs.lemmas.List.{length-replicate}
 use Rattle.owl_axioms.specs.declared.body.Axiom.{Axiom}
 use Rattle.owl_axioms.specs.declared.name.Kind.{Kind}
 use Rattle.owl_axioms.specs.declared.name.Kind.TheVariants as kind
 use Rattle.owl_ontology.specs.Ontology.{Entry, axioms_of, flagged}
-use Rattle.owl_axioms.specs.Names.{Scope, has_meaning, listed, meaningful, names_of}
+use Rattle.owl_axioms.specs.Names.{has_meaning, listed, meaningful, names_of}
 use Rattle.rel_io.proofs.Options.{none_there, same_there}
 use Rattle.owl_axioms.specs.Signature.{SigState, scope_of}
-use Rattle.module_extract.specs.Module.{Fills, IsClosed, IsPart, seed_and}
+use Rattle.module_extract.specs.Module.{Fills, seed_and}
 use Rattle.module_extract.specs.inner.Work.{IsGrowing}
 
 none_flagged : (n : ℕ) (axioms : List Axiom) → flagged (replicate n false) axioms ≡ []

@@ -1,6 +1,5 @@
 -- A turn keeps what holds between turns, and a round without growth ends with a closed part.
-use Rattle.std.proofs.Common.{◌≡◌, ℕ, zero, suc, ◌+◌, ◌<◌, ◌≤◌, Bool, true, false, ◌&&◌, ◌||◌, List, [], ◌∷◌, ◌++◌, None, Some, Option, cond, slice_get, slice_set, length, refl, sym, ap, subst, ◌∙◌, arith, true≢false, length-set, ⊎_elim, if◌then◌else◌}
-use Rattle.std.specs.List.{list_any}
+use Rattle.std.proofs.Common.{◌≡◌, ℕ, zero, suc, ◌+◌, ◌<◌, ◌≤◌, Bool, true, false, ◌&&◌, ◌||◌, List, [], ◌∷◌, ◌++◌, Some, slice_get, slice_set, length, refl, sym, ap, subst, ◌∙◌, arith, true≢false, length-set, ⊎_elim, if◌then◌else◌}
 use Rattle.std.proofs.lemmas.Bool.{cases_lt}
 use Rattle.std.specs.Str.{bytes_eq}
 use Rattle.owl_axioms.specs.contracts.name.KindPartialEq.TheImpl as kind_eq
@@ -8,16 +7,15 @@ use Rattle.owl_axioms.specs.declared.body.Axiom.{Axiom}
 use Rattle.owl_axioms.specs.declared.name.Kind.{Kind}
 use Rattle.owl_axioms.specs.declared.name.Name.{Name}
 use Rattle.owl_ontology.specs.Ontology.{flagged}
-use Rattle.owl_axioms.specs.Names.{Scope, body_names, either, has_meaning, listed, meaningful, names_of}
-use Rattle.owl_axioms.proofs.Listed.{fewer_names}
+use Rattle.owl_axioms.specs.Names.{Scope, body_names, has_meaning, listed, meaningful, names_of}
 use Rattle.rel_io.proofs.Options.{none_there, same_there}
 use Rattle.owl_axioms.specs.Signature.{SigState, added, scope_of}
 use Rattle.owl_axioms.proofs.Signatures.{scope_added}
 use Rattle.locality_tables.specs.Local.{is_local}
 use Rattle.locality_tables.proofs.Monotone.{local_meaning, tests_stay}
-use Rattle.module_extract.specs.Module.{Fills, IsClosed, IsModule, IsPart, seed_and}
+use Rattle.module_extract.specs.Module.{Fills, IsModule, seed_and}
 use Rattle.module_extract.specs.inner.Work.{IsGrowing, IsRoundAt, IsTurn, off_count, tests_local}
-use Rattle.module_extract.proofs.Flags.{by_flag, in_part, smaller}
+use Rattle.module_extract.proofs.Flags.{by_flag, smaller}
 
 listed_append : (xs ys : List Name) (k : Kind) (a : List ℕ) → listed (xs ++ ys) k a ≡ (listed xs k a || listed ys k a)
 unfolding listed

@@ -1,6 +1,6 @@
 -- What modules keep, and how they are told. (Model conservativity of locality-based modules: JAIR 31 (2008), section 6; the
 -- rest is our own.)
-use Rattle.std.specs.Prelude.{ℕ, ◌≡◌, Bool, true, List, length}
+use Rattle.std.specs.Prelude.{◌≡◌, Bool, true, List, length}
 use Rattle.owl_axioms.specs.Names.{Scope, covers, listed, names_of}
 use Rattle.owl_axioms.specs.declared.body.Axiom.{Axiom}
 use Rattle.owl_axioms.specs.declared.name.Name.{Name}

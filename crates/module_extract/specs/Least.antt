@@ -1,5 +1,5 @@
 -- The module as a plain function: grown from nothing, in as many rounds as there are axioms. (Own.)
-use Rattle.std.specs.Prelude.{ℕ, zero, suc, ◌≡◌, Bool, true, false, not, ◌&&◌, ◌||◌, List, [], ◌∷◌, length, map}
+use Rattle.std.specs.Prelude.{ℕ, zero, suc, Bool, false, not, ◌&&◌, ◌||◌, List, [], ◌∷◌, length, map}
 use Rattle.owl_axioms.specs.declared.body.Axiom.{Axiom}
 use Rattle.owl_axioms.specs.Names.{Scope}
 use Rattle.locality_tables.specs.Local.{is_local}

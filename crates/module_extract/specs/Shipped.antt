@@ -1,5 +1,5 @@
 -- What is shipped with a part of the logical axioms. (Own.)
-use Rattle.std.specs.Prelude.{ℕ, ◌≡◌, Bool, true, false, not, ◌||◌, List, [], ◌∷◌}
+use Rattle.std.specs.Prelude.{Bool, true, not, ◌||◌, List, [], ◌∷◌}
 use Rattle.owl_axioms.specs.Names.{Scope, is_signed}
 use Rattle.owl_axioms.specs.declared.body.Axiom.{Axiom}
 use Rattle.owl_axioms.specs.declared.body.Body.{Body}

@@ -1,5 +1,5 @@
 -- The plain function gives what the rounds end with, and they end with nothing else.
-use Rattle.std.proofs.Common.{◌≡◌, ℕ, zero, suc, ◌+◌, ◌<◌, ◌≤◌, ◌==◌, ◌⊎◌, inl, inr, ⊎_elim, add-one, Bool, true, false, List, [], ◌∷◌, length, cond, arith, refl, sym, ap, subst, ◌∙◌, eqb-true}
+use Rattle.std.proofs.Common.{◌≡◌, ℕ, zero, suc, ◌<◌, ◌≤◌, ◌==◌, ⊎_elim, add-one, Bool, true, false, List, [], ◌∷◌, length, cond, arith, refl, sym, ap, subst, ◌∙◌, eqb-true}
 use Rattle.std.proofs.lemmas.Bool.{cases_lt}
 use Rattle.std.proofs.lemmas.Bool.Decides.{nat_tests}
 use Rattle.owl_axioms.specs.declared.body.Axiom.{Axiom}

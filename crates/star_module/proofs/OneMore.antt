@@ -1,5 +1,5 @@
 -- One more round: it is the last one, or drops something.
-use Rattle.std.proofs.Common.{◌≡◌, ℕ, suc, ◌+◌, ◌<◌, ◌≤◌, ◌⊎◌, inl, inr, ⊎_elim, add-one, Bool, List, length, arith, refl, sym, ap, subst, ◌∙◌}
+use Rattle.std.proofs.Common.{◌≡◌, ℕ, ◌+◌, ◌<◌, ◌⊎◌, inl, inr, add-one, Bool, List, length, arith, sym, ap, subst, ◌∙◌}
 use Rattle.owl_axioms.specs.declared.body.Axiom.{Axiom}
 use Rattle.owl_axioms.specs.Names.{Scope}
 use Rattle.module_extract.specs.Module.{Fills, on_count}

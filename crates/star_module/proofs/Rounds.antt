@@ -1,15 +1,13 @@
 -- What rounds of modules come to keeps the axioms that they began with.
-use Rattle.std.proofs.Common.{◌≡◌, ℕ, suc, Bool, true, false, ◌&&◌, ◌||◌, List, [], ◌∷◌, length, refl, sym, ap, subst, ◌∙◌}
+use Rattle.std.proofs.Common.{◌≡◌, ℕ, Bool, true, ◌&&◌, List, [], ◌∷◌, length, sym, ap, subst, ◌∙◌}
 use Rattle.owl_axioms.specs.declared.body.Axiom.{Axiom}
-use Rattle.owl_axioms.specs.declared.name.Kind.{Kind}
 use Rattle.owl_ontology.specs.Ontology.{flagged}
-use Rattle.owl_sem.specs.Interp.{Interp}
-use Rattle.owl_sem.specs.Models.{Agrees, IsModel, Keeps}
-use Rattle.owl_axioms.specs.Names.{Scope, all_names, common, either, listed, names_of}
+use Rattle.owl_sem.specs.Models.{Keeps}
+use Rattle.owl_axioms.specs.Names.{Scope, common}
 use Rattle.owl_sem.proofs.Keeps.{keeping_composes, keeping_is_reflexive, keeping_less}
 use Rattle.star_module.specs.Laws.{RoundsKeep}
-use Rattle.module_extract.specs.Module.{Fills, IsModule, IsPart, seed_and}
-use Rattle.star_module.specs.Star.{AreRounds, IsEnd, IsRound, more, start}
+use Rattle.module_extract.specs.Module.{Fills, IsPart, seed_and}
+use Rattle.star_module.specs.Star.{AreRounds, IsRound, more, start}
 use Rattle.module_extract.proofs.Extending.{closed_keeps}
 use Rattle.module_extract.proofs.Flags.{smaller}
 

@@ -1,4 +1,3 @@
-use Rattle.std.proofs.Common.{◌≡◌}
 use Rattle.owl_ontology.specs.Ontology.{axioms_of}
 use Rattle.owl_axioms.specs.Signature.{scope_of}
 use Rattle.module_extract.specs.Module.{fills_of}

@@ -1,4 +1,4 @@
-use Rattle.std.proofs.Common.{◌≡◌, ◌++◌, [], ◌∷◌, ap, sym, subst, ◌∙◌}
+use Rattle.std.proofs.Common.{◌++◌, [], ◌∷◌, sym, ◌∙◌}
 use Rattle.owl_ontology.specs.Ontology.{axioms_of}
 use Rattle.owl_sem.specs.Models.{is_logical}
 use Rattle.module_extract.proofs.Counting.{map_next}

@@ -1,4 +1,4 @@
-use Rattle.std.proofs.Common.{◌≡◌, ◌<◌, ◌++◌, [], ◌∷◌, Some, arith, ap, sym, ◌∙◌, length, slice_get}
+use Rattle.std.proofs.Common.{◌<◌, ◌++◌, [], ◌∷◌, arith, sym, ◌∙◌, length}
 use Rattle.owl_axioms.specs.Signature.{scope_of}
 use Rattle.owl_axioms.proofs.Adding.{get_from_read}
 use Rattle.owl_ontology.specs.Ontology.{axioms_of}

@@ -1,4 +1,4 @@
-use Rattle.std.proofs.Common.{◌≡◌, ◌<◌, Some, arith, ap, sym, ◌∙◌, if◌then◌else◌, length, slice_get}
+use Rattle.std.proofs.Common.{◌<◌, arith, sym, ◌∙◌, if◌then◌else◌, length}
 use Rattle.owl_axioms.specs.Names.{body_names, names_of}
 use Rattle.owl_axioms.specs.Signature.{added}
 use Rattle.owl_axioms.proofs.Adding.{get_from_read}

@@ -1,4 +1,4 @@
-use Rattle.std.proofs.Common.{◌≡◌, ap, sym, subst, ◌∙◌, length}
+use Rattle.std.proofs.Common.{sym, subst, ◌∙◌}
 use Rattle.owl_axioms.specs.Signature.{scope_of}
 use Rattle.owl_ontology.specs.Ontology.{axioms_of}
 use Rattle.module_extract.specs.Laws.{KeepsWith}

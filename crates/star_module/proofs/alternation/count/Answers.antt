@@ -1,5 +1,4 @@
-use Rattle.std.proofs.Common.{◌≡◌, ◌<◌, ◌≤◌, ◌+◌, arith, ap, sym, subst, ◌∙◌, true, false, length, slice_get, Some, if◌then◌else◌, Fits, w64}
-use Rattle.module_extract.specs.Module.{on_count}
+use Rattle.std.proofs.Common.{◌<◌, ◌+◌, arith, sym, ◌∙◌, length}
 use Rattle.owl_axioms.proofs.Adding.{get_from_read}
 use Rattle.module_extract.proofs.Counting.{count_next, flag_most}
 use Rattle.star_module.proofs.alternation.count.Goals as goal

@@ -1,9 +1,9 @@
-use Rattle.std.proofs.Common.{◌≡◌, ℕ, suc, ◌<◌, ◌≤◌, ◌+◌, ◌⊎◌, inl, inr, ⊎_elim, add-one, arith, ap, sym, subst, ◌∙◌, refl, true, false, length, Fits, w64, List, Bool, eqb-true}
+use Rattle.std.proofs.Common.{◌≡◌, ◌<◌, ◌≤◌, ◌+◌, arith, ap, sym, subst, ◌∙◌, length}
 use Rattle.std.proofs.lemmas.Bool.Decides.{nat_tests}
 use Rattle.owl_ontology.specs.Ontology.{axioms_of}
 use Rattle.owl_axioms.specs.Signature.{scope_of}
 use Rattle.module_extract.specs.Module.{logical_flags, on_count}
-use Rattle.star_module.specs.Star.{AreRounds, IsEnd, IsRound, bottom_and_top, more, start}
+use Rattle.star_module.specs.Star.{AreRounds, IsEnd, bottom_and_top, start}
 use Rattle.module_extract.proofs.Counting.{count_most, flags_length}
 use Rattle.star_module.proofs.OneMore.{ended, fewer, goes_on}
 use Rattle.star_module.proofs.Rounds.{round_length, rounds_keep}
