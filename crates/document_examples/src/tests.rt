@@ -6,3 +6,4 @@ mod lines;
 mod printed;
 mod tables;
 mod tags;
+mod texts;
