@@ -12,7 +12,7 @@ use Rattle.owl_sem.specs.Interp.{Interp, in_class, in_role, individual}
 use Rattle.owl_sem.specs.Models.{Agrees}
 use Rattle.owl_axioms.specs.Names.{Scope, listed}
 use Rattle.owl_axioms.proofs.Tests.{all_three, both, by_either}
-use Rattle.locality_tables.specs.Fill.{IsFilled, below, class_entries, fill, is_outside, role_entries, role_holds}
+use Rattle.locality_tables.specs.Fill.{IsFilled, below, class_entries, fill, is_outside, left_by, role_entries, role_holds}
 use Rattle.locality_tables.specs.Laws.{FillsNamesAlways}
 use Rattle.locality_tables.specs.Verdict.{class_finding, is_full}
 use Rattle.locality_tables.specs.declared.fills.ClassFill.{ClassFill}
@@ -198,7 +198,7 @@ module _ (classes : ClassFill) (roles : RoleFill) (inside : Scope) (names : List
         ∙ role_any roles i.size names r e f w (below_of e i.size ls.0) (below_of f i.size ls.1));
   }
 
-  pub fill_agrees : Agrees i j (λ k a. not (is_outside inside names k a))
+  pub fill_agrees : Agrees i j (left_by inside names)
   unfolding in_class in_role
   fill_agrees = record {
     sizes = sym same_size;

@@ -27,6 +27,13 @@ pub record IsFilled (classes : ClassFill) (roles : RoleFill) (inside within : Sc
 abbrev pub is_outside : Scope → List Name → Kind → List ℕ → Bool
 is_outside inside names k a = listed names k a && not (inside k a)
 
+-- the names that a fill leaves as they are: the classes and roles that are inside or are not listed, and all individuals
+abbrev pub left_by : Scope → List Name → Scope
+left_by inside names kind.Class a = not (is_outside inside names kind.Class a)
+left_by inside names kind.Role a = not (is_outside inside names kind.Role a)
+left_by inside names kind.Individual a = true
+left_by inside names kind.AnnotationProperty a = true
+
 -- the numbers below n
 abbrev pub below : ℕ → List ℕ
 below zero = []

@@ -8,7 +8,7 @@ use Rattle.owl_axioms.specs.declared.name.Name.{Name}
 use Rattle.owl_sem.specs.Interp.{Interp, member}
 use Rattle.owl_sem.specs.Laws.{Within}
 use Rattle.owl_sem.specs.Models.{Agrees, Satisfies}
-use Rattle.locality_tables.specs.Fill.{IsFilled, fill, is_outside}
+use Rattle.locality_tables.specs.Fill.{IsFilled, fill, left_by}
 use Rattle.locality_tables.specs.Local.{is_local}
 use Rattle.locality_tables.specs.Verdict.{verdict}
 use Rattle.locality_tables.specs.declared.fills.ClassFill.{ClassFill}
@@ -17,12 +17,12 @@ use Rattle.locality_tables.specs.declared.finding.Finding.TheVariants as finding
 
 -- ---- the laws of a kind
 
--- in the fill of an interpretation the listed classes and roles outside are what the kind says, and the size and each name
--- that is inside, or is not listed, are as before
+-- in the fill of an interpretation the listed classes and roles outside are what the kind says, and the size, each other
+-- class and role, and all individuals are as before
 abbrev pub FillsNames : ClassFill → RoleFill → Type 0
 FillsNames classes roles =
     (inside : Scope) (names : List Name) (i : Interp)
-    → IsFilled classes roles inside (listed names) (fill classes roles inside names i) × Agrees i (fill classes roles inside names i) (λ k a. not (is_outside inside names k a))
+    → IsFilled classes roles inside (listed names) (fill classes roles inside names i) × Agrees i (fill classes roles inside names i) (left_by inside names)
 
 -- a verdict of Empty or Full stays with a smaller signature
 abbrev pub VerdictsStay : ClassFill → RoleFill → Type 0

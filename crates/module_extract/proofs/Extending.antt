@@ -7,7 +7,7 @@ use Rattle.owl_axioms.specs.Names.{Scope, body_names, listed, names_of}
 use Rattle.owl_sem.proofs.Depends.{satisfaction_depends}
 use Rattle.owl_sem.proofs.Keeps.{agrees_less}
 use Rattle.owl_axioms.proofs.Listed.{covers_axiom, covers_from, covers_listed, listed_in, name_of_axiom}
-use Rattle.locality_tables.specs.Fill.{fill, is_outside}
+use Rattle.locality_tables.specs.Fill.{fill, left_by}
 use Rattle.locality_tables.proofs.FillLaws.{fills_names}
 use Rattle.locality_tables.proofs.LocalSound.{local_sound}
 use Rattle.module_extract.specs.Laws.{ClosedExtends, ClosedKeeps}
@@ -18,6 +18,13 @@ not_outside : (l s : Bool) → s ≡ true → not (l && not s) ≡ true
 not_outside true s h = ap (λ b. not (not b)) h
 not_outside false s h = refl
 
+-- a fill leaves each name inside
+inside_left : (inside : Scope) (names : List Name) (k : Kind) (a : List ℕ) → inside k a ≡ true → left_by inside names k a ≡ true
+inside_left inside names kind.Class a h = not_outside (listed names kind.Class a) (inside kind.Class a) h
+inside_left inside names kind.Role a h = not_outside (listed names kind.Role a) (inside kind.Role a) h
+inside_left inside names kind.Individual a h = refl
+inside_left inside names kind.AnnotationProperty a h = refl
+
 either_right : (x y : Bool) → y ≡ true → (x || y) ≡ true
 either_right true y h = refl
 either_right false y h = h
@@ -27,7 +34,7 @@ closed_extends k axioms part seed kept closed names covering i m =
     let inside : Scope = seed_and seed axioms kept in
     let j : Interp = fill k.classes k.roles inside names i in
     let laws = fills_names k.classes k.roles inside names i in
-    let agree : Agrees i j inside = agrees_less i j (λ n a. not (is_outside inside names n a)) inside (λ n a h. not_outside (listed names n a) (inside n a) h) laws.1 in
+    let agree : Agrees i j inside = agrees_less i j (left_by inside names) inside (inside_left inside names) laws.1 in
     let some = subst (λ n. 1 ≤ n) agree.sizes m.some in (
       record {
         some = some;

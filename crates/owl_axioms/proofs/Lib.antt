@@ -4,4 +4,5 @@ pub mod Listed
 pub mod ProperAxioms
 pub mod Same
 pub mod Signatures
+pub mod Signed
 pub mod Tests

@@ -18,4 +18,4 @@ pub use laws::equality_is_sameness;
 pub use name::{Kind, Name};
 pub use naming::{is_signed, sig_of};
 pub use sig::Sig;
-pub use sig_laws::adding_is_union;
+pub use sig_laws::{adding_is_union, names_are_signed};
