@@ -1,11 +1,10 @@
 -- The clause of a note has its lists in printed order.
-use Rattle.std.proofs.Common.{◌≡◌, ℕ, Bool, true, false, List, [], ◌∷◌, codes, Option, None, Some, refl, subst, ◌&&◌}
+use Rattle.std.proofs.Common.{◌≡◌, ℕ, Bool, true, false, List, codes, Option, None, Some, subst, ◌&&◌}
 use Rattle.std.specs.Option.{option_and_then, option_map}
 use Rattle.std.specs.Str.{bytes_eq}
 use Rattle.obo_tags.specs.declared.kind.FrameKind.{FrameKind}
 use Rattle.obo_clause.specs.declared.clause.Clause.{Clause}
 use Rattle.obo_clause.specs.declared.clause.Qualifier.{Qualifier}
-use Rattle.obo_clause.specs.declared.clause.Scope.{Scope}
 use Rattle.obo_clause.specs.declared.clause.Value.{Value}
 use Rattle.obo_clause.specs.declared.clause.Value.TheVariants as value
 use Rattle.clause_printer.specs.Printing.{qualifier_text, xref_text}
@@ -18,7 +17,7 @@ use Rattle.text_sets.specs.Sorted.{Rises, sorted_by}
 use Rattle.text_sets.proofs.PartLemmas.{first_some-found, option_and_then_some, option_map_some}
 use Rattle.text_sets.proofs.SortedLemmas.{Rises-sorted_by}
 use Rattle.obo_notes.specs.Context.{Writing, datatype_word, is_text, where_true}
-use Rattle.obo_notes.specs.Forms.{Form, Spelled, as_value_of, as_property, described, first_part, is_truth, scope_of_property, spelled, spelled_as}
+use Rattle.obo_notes.specs.Forms.{Form, Spelled, as_value_of, first_part, is_truth, scope_of_property, spelled, spelled_as}
 use Rattle.obo_notes.specs.Keys.{qualifier_of, text_of_value}
 use Rattle.obo_notes.specs.Laws.{IsInPrintedOrder, xrefs_in}
 use Rattle.obo_notes.specs.Notes.{clause_by, clause_with, form_of, qualifiers_of, spelling, tags_tried}

@@ -49,7 +49,10 @@ fn push_some_label(out: &mut Vec<u8>, label: &[u8]) -> Result<(), NoMemory>
 fn push_label_begin(out: &mut Vec<u8>) -> Result<(), NoMemory>
     ensures { OnOk result (out.new.items ≡ out.old.items ++ label_begin) }
 {
-    push_bytes(out, b"Annotation(<http://www.w3.org/2000/01/rdf-schema#label> ")
+    push_bytes(
+        out,
+        b"Annotation(<http://www.w3.org/2000/01/rdf-schema#label> ",
+    )
 }
 
 /// Appends what stands behind the label of an annotation.

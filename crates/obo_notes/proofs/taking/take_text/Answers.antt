@@ -1,4 +1,4 @@
-use Rattle.std.proofs.Common.{ap, refl, sym, ◌∙◌, ◌++◌}
+use Rattle.std.proofs.Common.{ap, refl, ◌∙◌, ◌++◌}
 use Rattle.std.specs.Option.{option_or}
 use Rattle.obo_notes.specs.Parts.{text_of}
 use Rattle.obo_notes.specs.inner.Taking.{left_after}

@@ -1,4 +1,4 @@
-use Rattle.std.proofs.Common.{ap, refl, sym, ◌∙◌, ◌++◌}
+use Rattle.std.proofs.Common.{ap, refl, ◌∙◌, ◌++◌}
 use Rattle.std.specs.Option.{option_or}
 use Rattle.obo_notes.specs.Context.{writing_in}
 use Rattle.obo_notes.specs.Parts.{type_of}
