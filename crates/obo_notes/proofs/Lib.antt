@@ -1,0 +1,14 @@
+pub mod ContextLemmas
+pub mod FormBacks
+pub mod Guards
+pub mod KeyCovers
+pub mod KeyLemmas
+pub mod NoteCovers
+pub mod NoteFits
+pub mod NoteHasClause
+pub mod NoteLaws
+pub mod PartBacks
+pub mod PartCovers
+pub mod ProperSides
+pub mod SideTexts
+pub mod XrefLists

@@ -1,0 +1,7 @@
+pub mod Context
+pub mod Forms
+pub mod Keys
+pub mod Laws
+pub mod Notes
+pub mod Parts
+pub mod Vocabulary
