@@ -1,0 +1,6 @@
+//! What a logical clause says of the entity of its frame, and the clause that says it; and the groups of clauses of a Term
+//! that say one axiom together. The layers above translate the statements of documents by it, and spell those of ontologies.
+#![tactic(auto)]
+
+/// Nothing.
+pub fn nothing() {}
