@@ -11,7 +11,7 @@ use Rattle.obo_clause.specs.Grammar.{AreBlanks, AreQualifiers, IsBlock, IsCommen
 use Rattle.obo_clause.specs.Grammar as grammar
 use Rattle.obo_clause.specs.declared.mark.Mark.{Mark}
 use Rattle.obo_clause.specs.Marks.{bare, read_as}
-use Rattle.clause_printer.specs.Laws.{FitsQualifier}
+use Rattle.obo_clause.specs.Fits.{FitsQualifier}
 use Rattle.clause_printer.specs.Printing.{block_text, qualifier_text, quoted_text}
 use Rattle.obo_clause.specs.Vocabulary.{block_close, block_open, comma, equals, is_key_mark, is_one_of, is_space}
 use Rattle.clause_printer.proofs.SpelledMarks.{is_spellable, spelled}

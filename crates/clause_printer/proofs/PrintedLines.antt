@@ -3,7 +3,7 @@ use Rattle.std.proofs.Common.{◌≡◌, ℕ, ◌<◌, ◌≤◌, ◌==◌, Bool
 use Rattle.std.specs.List.{All, AllPass, list_all}
 use Rattle.std.proofs.lemmas.Bool.{agree_below_at, and_cases, and_from, and_parts, both_ways, cases_lt, ltb-true, not-false, not-true, or_from, or_parts}
 use Rattle.std.proofs.lemmas.Bool.Decides.{nat_tests}
-use Rattle.std.proofs.lemmas.List.Elements.{All-cons, All-head, All-nil, All-tail}
+use Rattle.std.proofs.lemmas.List.Elements.{All-append, All-cons, All-head, All-nil, All-tail}
 use Rattle.obo_lexer.specs.Tokens.{is_blank}
 use Rattle.obo_tags.specs.declared.kind.FrameKind.{FrameKind}
 use Rattle.obo_tags.specs.declared.kind.ValueShape.{ValueShape}
@@ -15,18 +15,20 @@ use Rattle.obo_clause.specs.declared.clause.Scope.TheVariants as scope
 use Rattle.obo_clause.specs.declared.clause.Value.{Value}
 use Rattle.obo_clause.specs.declared.clause.Value.TheVariants as value
 use Rattle.obo_clause.specs.declared.clause.Xref.{Xref}
-use Rattle.obo_clause.specs.Grammar.{AreBlanks, IsEnding, IsQuoted, IsWord, IsXrefList}
+use Rattle.obo_clause.specs.Grammar as grammar
+use Rattle.obo_clause.specs.Grammar.{AreBlanks, IsComment, IsEnding, IsQuoted, IsWord, IsXrefList}
 use Rattle.obo_clause.specs.declared.mark.Mark.{Mark}
 use Rattle.obo_clause.specs.Marks.{marks_of}
 use Rattle.rel_io.specs.Texts.{IsText, IsWordText}
-use Rattle.clause_printer.specs.Laws.{FitBehind, Fits, FitsQualifier, FitsShape, FitsXref, IsLineOf, IsRawText, IsWordOrNone}
-use Rattle.clause_printer.specs.Printing.{behind_space, block_text, clause_text, is_escaped_in_word, list_text, quoted_text, run_text, scope_text, space, type_text, value_text, word_text, xref_text}
+use Rattle.obo_clause.specs.Fits.{FitBehind, Fits, FitsQualifier, FitsShape, FitsXref, IsRawText, IsWordOrNone}
+use Rattle.clause_printer.specs.Laws.{IsLineOf}
+use Rattle.clause_printer.specs.Printing.{behind_space, block_text, clause_text, comment_text, is_escaped_in_word, list_text, quoted_text, run_text, scope_text, space, type_text, value_text, word_text, xref_text}
 use Rattle.obo_clause.specs.Spelled.{IsLine, IsSpelledAs}
-use Rattle.obo_clause.specs.Spelling.{IsContent, IsMoreList, IsMoreWord, IsRun, IsScoped, IsSecondWord, IsTagged, IsTypeScope, IsValue, Says, Spells, bool_word, scope_word, shape_at}
+use Rattle.obo_clause.specs.Spelling.{IsQualifiedValue, IsMoreList, IsMoreWord, IsRun, IsScoped, IsSecondWord, IsTagged, IsTypeScope, IsValue, Says, Spells, bool_word, scope_word, shape_at}
 use Rattle.obo_clause.specs.Spelling as spelling
-use Rattle.obo_clause.specs.Vocabulary.{is_space, is_tag_byte}
+use Rattle.obo_clause.specs.Vocabulary.{exclamation, is_space, is_tag_byte}
 use Rattle.clause_printer.proofs.SpelledMarks.{IsMarked, IsUtf8-byte}
-use Rattle.clause_printer.proofs.PrintedParts.{IsGap, IsLine-append, IsLine-nil, Prints, Prints-append, Prints-nil, Prints-weaker, free_inner, prints_space, prints_word, trimmed_unspaced}
+use Rattle.clause_printer.proofs.PrintedParts.{Are, IsGap, IsLine-append, IsLine-nil, Prints, Prints-append, Prints-nil, Prints-sign, Prints-weaker, free_inner, prints_space, prints_word, trimmed_unspaced}
 use Rattle.clause_printer.proofs.PrintedRuns.{IsRunAnywhere, IsXrefAt, prints_list, prints_quoted, prints_run, prints_xref}
 use Rattle.clause_printer.proofs.PrintedBlocks.{prints_ending}
 
@@ -256,9 +258,9 @@ prints_led P (byte ∷ bytes) h =
     Prints-append IsGap P (IsLed P) space (byte ∷ bytes)
     (λ ms ns gap is. record { before = ms; main = ns; whole = refl; blank = gap.blank; is = is }) prints_space h
 
--- the bytes are content, and may stand in a line
-record IsContentLine (shape : ValueShape) (bytes : List ℕ) (one : Value) (qualifiers : List Qualifier) : Type 0 where
-  content : IsContent shape bytes one qualifiers
+-- the bytes are a value with its qualifiers, and may stand in a line
+record IsQualifiedLine (shape : ValueShape) (bytes : List ℕ) (one : Value) (qualifiers : List Qualifier) : Type 0 where
+  valued : IsQualifiedValue shape bytes one qualifiers
   line : IsLine bytes
 
 abbrev content_text : Value → List Qualifier → List ℕ
@@ -269,7 +271,7 @@ whole_marks bytes marks before main between ending head tail marked whole is beh
     ap marks_of (sym (append-nil bytes)) ∙ marked.read [] ∙ append-nil marks ∙ whole ∙ ap (λ l. l ++ tail) is ∙ ap (λ l. (before ++ main) ++ l) behind
     ∙ sym (append_assoc (before ++ main) between ending)
 
-shaped_content : (shape : ValueShape) (one : Value) (qualifiers : List Qualifier) → (shape ≡ shapes.Raw → ⊥) → FitsShape shape one → All FitsQualifier qualifiers → IsContentLine shape (content_text one qualifiers) one qualifiers
+shaped_content : (shape : ValueShape) (one : Value) (qualifiers : List Qualifier) → (shape ≡ shapes.Raw → ⊥) → FitsShape shape one → All FitsQualifier qualifiers → IsQualifiedLine shape (content_text one qualifiers) one qualifiers
 shaped_content shape one qualifiers not_raw fits all =
     let printed = prints_then (IsLed (IsAnywhere shape one)) (IsLed (λ marks. IsEnding marks qualifiers)) (behind_space (value_text one)) (behind_space (block_text qualifiers))
     (prints_led (IsAnywhere shape one) (value_text one) (prints_value shape one not_raw fits))
@@ -277,27 +279,27 @@ shaped_content shape one qualifiers not_raw fits all =
     let left = printed.is.left in
     let right = printed.is.right in
     record {
-      content =
-          spelling.IsContent.shaped shape (content_text one qualifiers) left.before left.main right.before right.main one qualifiers
+      valued =
+          spelling.IsQualifiedValue.shaped shape (content_text one qualifiers) left.before left.main right.before right.main one qualifiers
           (whole_marks (content_text one qualifiers) printed.marks left.before left.main right.before right.main printed.is.first printed.is.second printed.marked printed.is.whole left.whole right.whole)
           left.blank (left.is.is (right.before ++ right.main)) right.blank right.is;
       line = printed.line;
     }
 
-raw_content : (text : List ℕ) → IsRawText text → IsContentLine shapes.Raw (content_text (value.Raw text) []) (value.Raw text) []
+raw_content : (text : List ℕ) → IsRawText text → IsQualifiedLine shapes.Raw (content_text (value.Raw text) []) (value.Raw text) []
 raw_content [] is = record {
-  content = spelling.IsContent.raw [] [] [] (All-nil (λ byte. is_blank byte ≡ true)) is.trimmed (All-nil (λ byte. is_blank byte ≡ true));
+  valued = spelling.IsQualifiedValue.raw [] [] [] (All-nil (λ byte. is_blank byte ≡ true)) is.trimmed (All-nil (λ byte. is_blank byte ≡ true));
   line = IsLine-nil;
 }
 raw_content (byte ∷ text) is = record {
-  content =
-      spelling.IsContent.raw space (byte ∷ text) [] (All-cons (λ one. is_blank one ≡ true) 32 [] refl (All-nil (λ one. is_blank one ≡ true))) is.trimmed (All-nil (λ one. is_blank one ≡ true));
+  valued =
+      spelling.IsQualifiedValue.raw space (byte ∷ text) [] (All-cons (λ one. is_blank one ≡ true) 32 [] refl (All-nil (λ one. is_blank one ≡ true))) is.trimmed (All-nil (λ one. is_blank one ≡ true));
   line = IsLine-append (space ++ byte ∷ text) [] (IsLine-append space (byte ∷ text) prints_space.line is.line) IsLine-nil;
 }
 
-printed_content : (shape : ValueShape) (one : Value) (qualifiers : List Qualifier) → FitsShape shape one → FitBehind shape qualifiers → IsContentLine shape (content_text one qualifiers) one qualifiers
+printed_content : (shape : ValueShape) (one : Value) (qualifiers : List Qualifier) → FitsShape shape one → FitBehind shape qualifiers → IsQualifiedLine shape (content_text one qualifiers) one qualifiers
 printed_content shapes.Raw (value.Raw text) qualifiers fits behind =
-    subst (λ (l : List Qualifier). IsContentLine shapes.Raw (content_text (value.Raw text) l) (value.Raw text) l) (sym behind) (raw_content text fits)
+    subst (λ (l : List Qualifier). IsQualifiedLine shapes.Raw (content_text (value.Raw text) l) (value.Raw text) l) (sym behind) (raw_content text fits)
 printed_content shapes.Raw _ qualifiers fits behind = absurd fits
 printed_content shapes.Text one qualifiers fits behind = shaped_content shapes.Text one qualifiers (λ same. absurd (cc)) fits behind
 printed_content shapes.Id one qualifiers fits behind = shaped_content shapes.Id one qualifiers (λ same. absurd (cc)) fits behind
@@ -333,7 +335,7 @@ printed_line kind first clause fits =
         each = fits.each;
         blank_between = All-nil (λ byte. is_blank byte ≡ true);
       };
-      content = behind.content;
+      valued = behind.valued;
     } in
     record {
       is_line = IsLine-append clause.tag (58 ∷ rest) (tag_line clause.tag fits.each) (IsLine-append (58 ∷ []) rest colon_line behind.line);
@@ -346,3 +348,121 @@ pub fit_is_spelled : (kind : FrameKind) (first : Bool) (clause : Clause) → Fit
 fit_is_spelled kind first clause fits =
     let printed = printed_line kind first clause fits in
     record { line = clause_text clause; is_line = printed.is_line; spells = printed.spells }
+
+-- ---- a comment behind a printed line
+
+-- blanks and a comment
+record IsTail (marks : List Mark) : Type 0 where
+  blanks : List Mark
+  comment : List Mark
+  whole : marks ≡ blanks ++ comment
+  blank : AreBlanks blanks
+  is : IsComment comment
+
+ending_goes_on : (before main ns : List Mark) (qualifiers : List Qualifier) → AreBlanks before → IsEnding main qualifiers → IsTail ns → IsLed (λ marks. IsEnding marks qualifiers) ((before ++ main) ++ ns)
+ending_goes_on before _ ns _ blank (grammar.IsEnding.bare _ grammar.IsComment.nothing) tail = record {
+  before = before ++ tail.blanks;
+  main = tail.comment;
+  whole = ap (λ l. l ++ ns) (append-nil before) ∙ ap (λ l. before ++ l) tail.whole ∙ sym (append_assoc before tail.blanks tail.comment);
+  blank = All-append (λ mark. is_space mark ≡ true) before tail.blanks blank tail.blank;
+  is = grammar.IsEnding.bare tail.comment tail.is;
+}
+ending_goes_on before _ ns _ blank (grammar.IsEnding.bare _ (grammar.IsComment.comment rest)) tail = record {
+  before = before;
+  main = exclamation ∷ (rest ++ ns);
+  whole = append_assoc before (exclamation ∷ rest) ns;
+  blank = blank;
+  is = grammar.IsEnding.bare (exclamation ∷ (rest ++ ns)) (grammar.IsComment.comment (rest ++ ns));
+}
+ending_goes_on before _ ns _ blank (grammar.IsEnding.qualified block blanks _ qualifiers is spaced grammar.IsComment.nothing) tail = record {
+  before = before;
+  main = block ++ (blanks ++ tail.blanks) ++ tail.comment;
+  whole = ap (λ l. (before ++ l) ++ ns) (append-nil (block ++ blanks)) ∙ ap (λ l. (before ++ (block ++ blanks)) ++ l) tail.whole ∙ nested before block blanks tail.blanks tail.comment;
+  blank = blank;
+  is = grammar.IsEnding.qualified block (blanks ++ tail.blanks) tail.comment qualifiers is (All-append (λ mark. is_space mark ≡ true) blanks tail.blanks spaced tail.blank) tail.is;
+}
+  where
+    nested : (a b c d e : List Mark) → (a ++ (b ++ c)) ++ (d ++ e) ≡ a ++ (b ++ (c ++ d) ++ e)
+    nested a b c d e = simp append_assoc
+ending_goes_on before _ ns _ blank (grammar.IsEnding.qualified block blanks _ qualifiers is spaced (grammar.IsComment.comment rest)) tail = record {
+  before = before;
+  main = block ++ blanks ++ exclamation ∷ (rest ++ ns);
+  whole = nested before block blanks (exclamation ∷ rest) ns;
+  blank = blank;
+  is = grammar.IsEnding.qualified block blanks (exclamation ∷ (rest ++ ns)) qualifiers is spaced (grammar.IsComment.comment (rest ++ ns));
+}
+  where
+    nested : (a b c d e : List Mark) → (a ++ (b ++ c ++ d)) ++ e ≡ a ++ (b ++ c ++ (d ++ e))
+    nested a b c d e = simp append_assoc
+
+prints_tail : (name : List ℕ) → IsText name → Prints IsTail (comment_text name)
+prints_tail name h =
+    Prints-append IsGap IsComment IsTail (codes " ") (33 ∷ (codes " " ++ run_text true name))
+    (λ ms ns gap is. record { blanks = ms; comment = ns; whole = refl; blank = gap.blank; is = is }) prints_space
+    (Prints-append (Are (exclamation ∷ [])) (λ marks. Unit {0}) IsComment (33 ∷ []) (codes " " ++ run_text true name)
+    (λ ms ns one any. subst IsComment (ap (λ l. l ++ ns) (sym one)) (grammar.IsComment.comment ns))
+    (Prints-sign 33 (omega arith) refl refl refl)
+    (Prints-append IsGap (IsRunAnywhere name) (λ marks. Unit {0}) (codes " ") (run_text true name) (λ ms ns gap run. tt) prints_space (prints_run name h)))
+
+commented_content : (shape : ValueShape) (one : Value) (qualifiers : List Qualifier) (name : List ℕ) → (shape ≡ shapes.Raw → ⊥) → FitsShape shape one → All FitsQualifier qualifiers → IsText name → IsQualifiedLine shape (content_text one qualifiers ++ comment_text name) one qualifiers
+commented_content shape one qualifiers name not_raw fits all h =
+    let ending = prints_then (IsLed (λ marks. IsEnding marks qualifiers)) IsTail (behind_space (block_text qualifiers)) (comment_text name)
+    (prints_led (λ marks. IsEnding marks qualifiers) (block_text qualifiers) (prints_ending qualifiers all)) (prints_tail name h) in
+    let led : Prints (IsLed (λ marks. IsEnding marks qualifiers)) (behind_space (block_text qualifiers) ++ comment_text name) =
+    Prints-weaker (Then (IsLed (λ marks. IsEnding marks qualifiers)) IsTail) (IsLed (λ marks. IsEnding marks qualifiers)) (behind_space (block_text qualifiers) ++ comment_text name)
+    (λ marks two. subst (IsLed (λ marks. IsEnding marks qualifiers)) (ap (λ l. l ++ two.second) (sym two.left.whole) ∙ sym two.whole)
+    (ending_goes_on two.left.before two.left.main two.second qualifiers two.left.blank two.left.is two.right)) ending in
+    let bytes = behind_space (value_text one) ++ (behind_space (block_text qualifiers) ++ comment_text name) in
+    let printed = prints_then (IsLed (IsAnywhere shape one)) (IsLed (λ marks. IsEnding marks qualifiers)) (behind_space (value_text one)) (behind_space (block_text qualifiers) ++ comment_text name)
+    (prints_led (IsAnywhere shape one) (value_text one) (prints_value shape one not_raw fits)) led in
+    let left = printed.is.left in
+    let right = printed.is.right in
+    subst (λ (l : List ℕ). IsQualifiedLine shape l one qualifiers) (sym (append_assoc (behind_space (value_text one)) (behind_space (block_text qualifiers)) (comment_text name)))
+    (record {
+      valued =
+          spelling.IsQualifiedValue.shaped shape bytes left.before left.main right.before right.main one qualifiers
+          (whole_marks bytes printed.marks left.before left.main right.before right.main printed.is.first printed.is.second printed.marked printed.is.whole left.whole right.whole)
+          left.blank (left.is.is (right.before ++ right.main)) right.blank right.is;
+      line = printed.line;
+    })
+
+fits_behind : (shape : ValueShape) (qualifiers : List Qualifier) → (shape ≡ shapes.Raw → ⊥) → FitBehind shape qualifiers → All FitsQualifier qualifiers
+fits_behind shapes.Raw qualifiers not_raw h = absurd (not_raw refl)
+fits_behind shapes.Text qualifiers not_raw h = h
+fits_behind shapes.Id qualifiers not_raw h = h
+fits_behind shapes.Pair qualifiers not_raw h = h
+fits_behind shapes.IdOrPair qualifiers not_raw h = h
+fits_behind shapes.Bool qualifiers not_raw h = h
+fits_behind shapes.Def qualifiers not_raw h = h
+fits_behind shapes.Synonym qualifiers not_raw h = h
+fits_behind shapes.XrefShape qualifiers not_raw h = h
+fits_behind shapes.Property qualifiers not_raw h = h
+fits_behind shapes.SubsetDef qualifiers not_raw h = h
+fits_behind shapes.SynonymDef qualifiers not_raw h = h
+
+-- a comment behind the printed line changes nothing of what it spells
+pub commented_line : (kind : FrameKind) (first : Bool) (clause : Clause) (name : List ℕ) → Fits kind first clause → (shape_at kind first clause.tag ≡ shapes.Raw → ⊥) → IsText name → IsLineOf kind first (clause_text clause ++ comment_text name) clause
+unfolding clause_text
+commented_line kind first clause name fits not_raw h =
+    let shape = shape_at kind first clause.tag in
+    let behind = commented_content shape clause.value clause.qualifiers name not_raw fits.value (fits_behind shape clause.qualifiers not_raw fits.qualifiers) h in
+    let rest = content_text clause.value clause.qualifiers ++ comment_text name in
+    let whole : clause_text clause ++ comment_text name ≡ clause.tag ++ 58 ∷ rest = append_assoc clause.tag (58 ∷ content_text clause.value clause.qualifiers) (comment_text name) in
+    let spells : Spells kind first (clause_text clause ++ comment_text name) clause = record {
+      rest = rest;
+      tagged = record {
+        before = [];
+        between = [];
+        whole = whole ∙ ap (λ l. l ++ 58 ∷ rest) (sym (append-nil clause.tag));
+        blank_before = All-nil (λ byte. is_blank byte ≡ true);
+        some = fits.some;
+        each = fits.each;
+        blank_between = All-nil (λ byte. is_blank byte ≡ true);
+      };
+      valued = behind.valued;
+    } in
+    record {
+      is_line = subst IsLine (sym whole) (IsLine-append clause.tag (58 ∷ rest) (tag_line clause.tag fits.each) (IsLine-append (58 ∷ []) rest colon_line behind.line));
+      spells = spells;
+      says = spelling.Says.content clause spells;
+    }

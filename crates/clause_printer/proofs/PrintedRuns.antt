@@ -10,7 +10,7 @@ use Rattle.obo_clause.specs.Grammar as grammar
 use Rattle.obo_clause.specs.declared.mark.Mark.{Mark}
 use Rattle.obo_clause.specs.Marks.{meant, read_as}
 use Rattle.rel_io.specs.Texts.{IsText}
-use Rattle.clause_printer.specs.Laws.{FitsXref, IsTextOrNone}
+use Rattle.obo_clause.specs.Fits.{FitsXref, IsTextOrNone}
 use Rattle.clause_printer.specs.Printing.{is_end, is_escaped_in_quotes, is_escaped_in_run, label_text, letter_of, list_text, quoted_text, run_text, spelled_byte, word_text, xref_text}
 use Rattle.obo_clause.specs.Spelling.{IsRun}
 use Rattle.obo_clause.specs.Vocabulary.{comma, is_one_of, is_quoted_mark, is_space, list_close, list_open, quote}

@@ -16,9 +16,9 @@ use Rattle.obo_clause.specs.Grammar as grammar
 use Rattle.obo_clause.specs.declared.mark.Mark.{Mark}
 use Rattle.obo_clause.specs.Marks.{bare, read_as}
 use Rattle.rel_io.specs.Texts.{IsText, IsWordText}
-use Rattle.clause_printer.specs.Laws.{FitBehind, Fits, FitsQualifier, FitsShape, FitsXref, IsTextOrNone, IsWordOrNone}
+use Rattle.obo_clause.specs.Fits.{FitBehind, Fits, FitsQualifier, FitsShape, FitsXref, IsTextOrNone, IsWordOrNone}
 use Rattle.obo_clause.specs.Spelled.{IsLine, IsSpelledAs}
-use Rattle.obo_clause.specs.Spelling.{IsContent, IsMoreList, IsMoreWord, IsScoped, IsSecondWord, IsTagged, IsTypeScope, IsValue, shape_at, text_datatype}
+use Rattle.obo_clause.specs.Spelling.{IsQualifiedValue, IsMoreList, IsMoreWord, IsScoped, IsSecondWord, IsTagged, IsTypeScope, IsValue, shape_at, text_datatype}
 use Rattle.obo_clause.specs.Spelling as spelling
 use Rattle.obo_clause.specs.Vocabulary.{block_close, block_open, comma, equals, is_key_mark, list_close, list_open, quote}
 use Rattle.clause_printer.proofs.PrintedLines.{IsLine-constant, is_line_byte, text_of_line}
@@ -260,11 +260,11 @@ fits_value behind _ _ _ qualifiers (spelling.IsValue.synonym_type marks blanks t
 
 -- ---- what stands behind the colon, and clauses
 
-fits_content : (shape : ValueShape) (bytes : List ℕ) (one : Value) (qualifiers : List Qualifier) → IsContent shape bytes one qualifiers → IsLine bytes → FitsShape shape one × FitBehind shape qualifiers
-fits_content _ _ _ _ (spelling.IsContent.raw before text behind blank_before trimmed blank_behind) line =
+fits_content : (shape : ValueShape) (bytes : List ℕ) (one : Value) (qualifiers : List Qualifier) → IsQualifiedValue shape bytes one qualifiers → IsLine bytes → FitsShape shape one × FitBehind shape qualifiers
+fits_content _ _ _ _ (spelling.IsQualifiedValue.raw before text behind blank_before trimmed blank_behind) line =
     let inner = line_behind_blanks before (text ++ behind) blank_before (subst IsLine (append_assoc before text behind) line) in
     (record { trimmed = trimmed; line = (line_cut text behind (starts_low_blanks behind blank_behind) inner).0 }, refl)
-fits_content _ _ _ _ (spelling.IsContent.shaped shape bytes before marks between ending one qualifiers whole blank_before value blank_between ended) line =
+fits_content _ _ _ _ (spelling.IsQualifiedValue.shaped shape bytes before marks between ending one qualifiers whole blank_before value blank_between ended) line =
     let sound : Sound (before ++ (marks ++ (between ++ ending))) = subst Sound (whole ∙ append_assoc (before ++ marks) between ending ∙ append_assoc before marks (between ++ ending)) (sound_line bytes line) in
     let inner = sound_behind_blanks before (marks ++ (between ++ ending)) blank_before sound in
     let low = low_blanks between ending blank_between (low_ending ending qualifiers ended) in
@@ -277,5 +277,5 @@ spelled_fits kind first clause is =
     let rest = is.spells.rest in
     let whole : IsLine ((tagged.before ++ clause.tag ++ tagged.between) ++ 58 ∷ rest) = subst IsLine tagged.whole is.is_line in
     let behind = line_front 58 rest (omega arith) (line_cut (tagged.before ++ clause.tag ++ tagged.between) (58 ∷ rest) (omega arith) whole).1 in
-    let content = fits_content (shape_at kind first clause.tag) rest clause.value clause.qualifiers is.spells.content behind in
+    let content = fits_content (shape_at kind first clause.tag) rest clause.value clause.qualifiers is.spells.valued behind in
     record { some = tagged.some; each = tagged.each; value = content.0; qualifiers = content.1 }

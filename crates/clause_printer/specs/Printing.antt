@@ -113,3 +113,7 @@ behind_space (byte ∷ bytes) = space ++ byte ∷ bytes
 unfoldable pub clause_text : Clause → List ℕ
 clause_text clause =
     clause.tag ++ 58 ∷ (behind_space (value_text clause.value) ++ behind_space (block_text clause.qualifiers))
+
+-- a space, `!`, a space and a name as a run of characters
+abbrev pub comment_text : List ℕ → List ℕ
+comment_text name = codes " " ++ 33 ∷ (codes " " ++ run_text true name)

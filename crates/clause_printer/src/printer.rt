@@ -1,7 +1,8 @@
-//! `print_clause`: the line of a clause. Each part is appended by a function of its own.
+//! `print_clause`: the line of a clause. Each part is appended by a function of its own; those of the parts by which clauses
+//! are sorted and compared are public. Where no memory is left a part may be appended in part.
 ghost use Rattle.std.specs.Prelude.{◌≡◌, ◌++◌, IfOk, OnErr, OnOk, codes, true};
 ghost use Rattle.std.specs.List.{flat_map};
-ghost use Rattle.clause_printer.specs.Laws.{SpellsAgain};
+ghost use Rattle.clause_printer.specs.Laws.{AppendsLine};
 ghost use Rattle.clause_printer.specs.Printing as spec;
 ghost use Rattle.obo_clause.specs.Spelled.{CanBeSpelled};
 ghost use Rattle.obo_clause.specs.Spelling.{bool_word, scope_word};
@@ -15,7 +16,7 @@ use std::alloc::Global;
 pub fn print_clause(alloc: Global, clause: &Clause, out: &mut Vec<u8>) -> Result<(), NoMemory>
     requires spelled { CanBeSpelled clause.now }
     ensures text { OnOk result (out.new.items ≡ out.old.items ++ spec.clause_text clause.now) }
-    ensures line { OnOk result (SpellsAgain clause.now) }
+    ensures line { OnOk result (AppendsLine clause.now out.old.items out.new.items) }
     ensures unchanged { OnErr result (out.new.items ≡ out.old.items) }
 {
     let line = clause_text(alloc, clause)?;
@@ -25,12 +26,13 @@ pub fn print_clause(alloc: Global, clause: &Clause, out: &mut Vec<u8>) -> Result
 
 /// The line of a clause.
 #[tactic(auto, unfolding(crate::specs::Printing::clause_text))]
-pub fn clause_text(alloc: Global, clause: &Clause) -> Result<Vec<u8>, NoMemory>
+fn clause_text(alloc: Global, clause: &Clause) -> Result<Vec<u8>, NoMemory>
     ensures { IfOk result (λ line. line.items ≡ spec.clause_text clause.now) }
 {
     let mut value = Vec::new(alloc);
     push_value(&mut value, &clause.value)?;
-    let block = block_text(alloc, clause.qualifiers.as_slice())?;
+    let mut block = Vec::new(alloc);
+    push_block(&mut block, clause.qualifiers.as_slice())?;
     let mut line = Vec::from_slice(alloc, clause.tag.as_slice())?;
     line.push(b':')?;
     push_behind_space(&mut line, value.as_slice())?;
@@ -57,8 +59,8 @@ fn push_text(out: &mut Vec<u8>, text: &[u8]) -> Result<(), NoMemory>
     Ok(())
 }
 
-/// Appends what is printed of a value.
-fn push_value(out: &mut Vec<u8>, value: &Value) -> Result<(), NoMemory>
+/// Appends the text of a value, as it stands behind the tag and its colon.
+pub fn push_value(out: &mut Vec<u8>, value: &Value) -> Result<(), NoMemory>
     ensures { OnOk result (out.new.items ≡ out.old.items ++ spec.value_text value.now) }
 {
     match value {
@@ -235,8 +237,8 @@ fn push_other_xref(out: &mut Vec<u8>, xref: &Xref) -> Result<(), NoMemory>
     push_xref(out, xref)
 }
 
-/// Appends an xref.
-fn push_xref(out: &mut Vec<u8>, xref: &Xref) -> Result<(), NoMemory>
+/// Appends the text of an xref.
+pub fn push_xref(out: &mut Vec<u8>, xref: &Xref) -> Result<(), NoMemory>
     ensures { OnOk result (out.new.items ≡ out.old.items ++ spec.xref_text xref.now) }
 {
     push_word(out, xref.id.as_slice())?;
@@ -249,18 +251,17 @@ fn push_xref(out: &mut Vec<u8>, xref: &Xref) -> Result<(), NoMemory>
     }
 }
 
-/// What is printed of qualifiers.
-fn block_text(alloc: Global, qualifiers: &[Qualifier]) -> Result<Vec<u8>, NoMemory>
-    ensures { IfOk result (λ text. text.items ≡ spec.block_text qualifiers.now) }
+/// Appends the block of the qualifiers: nothing where there is none.
+pub fn push_block(out: &mut Vec<u8>, qualifiers: &[Qualifier]) -> Result<(), NoMemory>
+    ensures { OnOk result (out.new.items ≡ out.old.items ++ spec.block_text qualifiers.now) }
 {
-    let mut out = Vec::new(alloc);
     if let Some((first, others)) = qualifiers.split_first() {
         out.push(b'{')?;
-        push_qualifier(&mut out, first)?;
-        push_other_qualifiers(&mut out, others)?;
+        push_qualifier(out, first)?;
+        push_other_qualifiers(out, others)?;
         out.push(b'}')?;
     }
-    Ok(out)
+    Ok(())
 }
 
 /// Appends the qualifiers behind the first one, each with a comma before it.
@@ -282,13 +283,21 @@ fn push_other_qualifier(out: &mut Vec<u8>, qualifier: &Qualifier) -> Result<(), 
     push_qualifier(out, qualifier)
 }
 
-/// Appends a qualifier, its value in quotes.
-fn push_qualifier(out: &mut Vec<u8>, qualifier: &Qualifier) -> Result<(), NoMemory>
+/// Appends the text of a qualifier, its value in quotes.
+pub fn push_qualifier(out: &mut Vec<u8>, qualifier: &Qualifier) -> Result<(), NoMemory>
     ensures { OnOk result (out.new.items ≡ out.old.items ++ spec.qualifier_text qualifier.now) }
 {
     out.extend_from_slice(qualifier.key.as_slice())?;
     out.push(b'=')?;
     push_quoted(out, qualifier.value.as_slice())
+}
+
+/// Appends a name in a comment, as it may stand behind a line.
+pub fn push_comment(out: &mut Vec<u8>, name: &[u8]) -> Result<(), NoMemory>
+    ensures { OnOk result (out.new.items ≡ out.old.items ++ spec.comment_text name.now) }
+{
+    out.extend_from_slice(b" ! ")?;
+    push_run(out, name)
 }
 
 /// Appends a quoted text.

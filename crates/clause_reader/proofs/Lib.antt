@@ -1,4 +1,3 @@
 pub mod AnswerLemmas
 pub mod LoopLemmas
 pub mod ScanLemmas
-pub mod ShapeLemmas

@@ -29,11 +29,6 @@ onto-none (Err one) = refl
 pub record ListsOn (marks : List Mark) (all : ℕ) (made : List Xref) (rest : List Mark) (done : ℕ) : Type 0 where
   pub same : slots_from all marks ≡ onto made (slots_from (all - done) rest)
 
-pub lists-begin : (marks : List Mark) (all : ℕ) → ListsOn marks all [] marks 0
-lists-begin marks all =
-    let e : all - 0 ≡ all = omega arith in
-    record { same = sym (onto-none (slots_from all marks)) ∙ ap (λ n. onto [] (slots_from n marks)) (sym e) }
-
 one-more : (all done : ℕ) → done < all → all - done ≡ suc (all - (done + 1))
 one-more all done less = omega arith
 
@@ -77,11 +72,6 @@ into-none None = refl
 -- the block read from the marks is these qualifiers and the block read from the rest
 pub record BlocksOn (marks : List Mark) (all : ℕ) (made : List Qualifier) (rest : List Mark) (done : ℕ) : Type 0 where
   pub same : qualifiers_from all marks ≡ into made (qualifiers_from (all - done) rest)
-
-pub blocks-begin : (marks : List Mark) (all : ℕ) → BlocksOn marks all [] marks 0
-blocks-begin marks all =
-    let e : all - 0 ≡ all = omega arith in
-    record { same = sym (into-none (qualifiers_from all marks)) ∙ ap (λ n. into [] (qualifiers_from n marks)) (sym e) }
 
 module _ (marks : List Mark) (all : ℕ) (made : List Qualifier) (rest : List Mark) (done : ℕ) where
   pub blocks-fail : BlocksOn marks all made rest done → done < all → field_at rest ≡ None → qualifiers_from all marks ≡ None

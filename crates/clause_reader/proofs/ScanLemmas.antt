@@ -2,8 +2,7 @@
 use Rattle.std.proofs.Common.{◌≡◌, ℕ, ◌+◌, ◌-◌, ◌<◌, ◌≤◌, Bool, true, false, List, [], ◌∷◌, ◌++◌, length, get_or, take, drop, refl, sym, ap, ◌∙◌, arith}
 use Rattle.std.specs.List.{prefix_len}
 use Rattle.std.proofs.lemmas.List.{take_more}
-use Rattle.std.proofs.lemmas.List.Sums.{prefix_len-drop_all, prefix_len-drop_no, prefix_len-drop_yes}
-use Rattle.std.proofs.Math.Seq.{take-length}
+use Rattle.std.proofs.lemmas.List.Sums.{prefix_len-drop_yes}
 use Rattle.obo_clause.specs.Reading.{kept, trim_end}
 
 -- a run that goes on up to a place ends where the run from there on ends
@@ -19,18 +18,6 @@ runs-on passes items place d run less passed =
     let w = run.from in
     let e = prefix_len-drop_yes passes items place d less passed in
     record { within = omega arith; from = omega (arith, w, e) }
-
-pub runs-stop : {A : Type 0} (passes : A → Bool) (items : List A) (place : ℕ) (d : A) → RunsTo A passes items place → place < length items → passes (get_or items place d) ≡ false → place ≡ prefix_len passes items
-runs-stop passes items place d run less failed =
-    let w = run.from in
-    let e = prefix_len-drop_no passes items place d less failed in
-    omega (arith, w, e)
-
-pub runs-end : {A : Type 0} (passes : A → Bool) (items : List A) (place : ℕ) → RunsTo A passes items place → length items ≤ place → place ≡ prefix_len passes items
-runs-end passes items place run least =
-    let w = run.from in
-    let e = prefix_len-drop_all passes items place least in
-    omega (arith, w, e)
 
 -- what passes at the end is trimmed
 pub trim_end-passes : {A : Type 0} (passes : A → Bool) (items : List A) (last : A) → passes last ≡ true → trim_end passes (items ++ last ∷ []) ≡ trim_end passes items
@@ -50,9 +37,6 @@ trim_end-fails passes (item ∷ other ∷ items) last failed =
 pub record TrimsFrom (A : Type 0) (passes : A → Bool) (items : List A) (place : ℕ) : Type 0 where
   pub within : place ≤ length items
   pub same : trim_end passes (take place items) ≡ trim_end passes items
-
-pub trims-begin : {A : Type 0} (passes : A → Bool) (items : List A) → TrimsFrom A passes items (length items)
-trims-begin passes items = record { within = omega arith; same = ap (trim_end passes) (take-length items) }
 
 pub trims-on : {A : Type 0} (passes : A → Bool) (items : List A) (place : ℕ) (d : A) → TrimsFrom A passes items place → 0 < place → passes (get_or items (place - 1) d) ≡ true → TrimsFrom A passes items (place - 1)
 trims-on {A} passes items place d trims some passed =

@@ -1,12 +1,14 @@
-//! The bytes of a line: which ones are blanks, make a tag, or end a word.
-ghost use Rattle.std.specs.Prelude.{◌≡◌, ◌≤◌, ◌||◌, ◌∷◌, codes, length};
-ghost use Rattle.std.specs.List.{list_all, prefix_len};
+//! The bytes of a line: what stands before and behind blanks and the first colon.
+ghost use Rattle.std.specs.Prelude.{◌≡◌, ◌≤◌, ◌||◌, codes, length};
+ghost use Rattle.std.specs.List.{prefix_len};
 ghost use Rattle.std.specs.Str.{bytes_eq};
 ghost use Rattle.obo_lexer.specs.Tokens.{is_blank};
 ghost use Rattle.obo_clause.specs.Reading.{behind, trim_end};
 ghost use Rattle.clause_reader.specs.Results.{parts_lent};
-ghost use Rattle.obo_clause.specs.ReadingLines.{at_colon, is_before_colon, is_line_comment, is_tag};
-ghost use Rattle.obo_clause.specs.Vocabulary.{is_one_of, is_tag_byte};
+ghost use Rattle.obo_clause.specs.ReadingLines.{at_colon, is_before_colon, is_line_comment};
+ghost use Rattle.obo_clause.specs.Vocabulary.{is_one_of};
+
+use obo_clause::is_blank;
 
 /// Whether the bytes are those of the word.
 pub fn is_word(bytes: &[u8], word: &[u8]) -> bool
@@ -15,50 +17,11 @@ pub fn is_word(bytes: &[u8], word: &[u8]) -> bool
     bytes == word
 }
 
-/// Whether the byte is a space or a tab.
-pub fn is_blank(byte: u8) -> bool
-    ensures { result ≡ is_blank byte }
-{
-    byte == b' ' || byte == b'\t'
-}
-
 /// Whether the byte ends a word where no backslash stands before it.
 pub fn ends_word(byte: u8) -> bool
     ensures { result ≡ (is_blank byte || is_one_of (codes "{![\"") byte) }
 {
     is_blank(byte) || matches!(byte, b'{' | b'!' | b'[' | b'"')
-}
-
-/// Whether the byte may not stand in the key of a qualifier.
-pub fn ends_key(byte: u8) -> bool
-    ensures { result ≡ (is_blank byte || is_one_of (10 ∷ 13 ∷ codes "=,{}\"!\\") byte) }
-{
-    is_blank(byte)
-        || matches!(
-            byte,
-            b'\n' | b'\r' | b'=' | b',' | b'{' | b'}' | b'"' | b'!' | b'\\'
-        )
-}
-
-/// Whether the byte may stand in a tag.
-fn is_tag_byte(byte: u8) -> bool
-    ensures { result ≡ is_tag_byte byte }
-{
-    byte.is_ascii_alphanumeric() || matches!(byte, b'-' | b'_')
-}
-
-/// Whether the bytes are a tag.
-pub fn is_tag(bytes: &[u8]) -> bool
-    ensures { result ≡ is_tag bytes.now }
-{
-    are_tag_bytes(bytes) && !bytes.is_empty()
-}
-
-/// Whether all bytes may stand in a tag.
-fn are_tag_bytes(bytes: &[u8]) -> bool
-    ensures { result ≡ list_all is_tag_byte bytes.now }
-{
-    bytes.iter().all(|byte| is_tag_byte(*byte))
 }
 
 /// What stands behind the blanks with which the bytes begin.

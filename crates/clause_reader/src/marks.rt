@@ -7,8 +7,8 @@ ghost use Rattle.clause_reader.specs.Classes.{in_class};
 ghost use Rattle.obo_clause.specs.Reading.{behind, behind_blanks, front, is_sign, text_read, trim_end};
 ghost use Rattle.obo_clause.specs.Vocabulary.{is_space};
 
-use crate::bytes::{ends_key, ends_word, is_blank};
-use obo_clause::Mark;
+use crate::bytes::ends_word;
+use obo_clause::{Mark, ends_key, is_blank};
 use rel_io::{Bytes, NoMemory};
 use std::alloc::Global;
 
@@ -33,7 +33,7 @@ pub enum Class {
 pub fn marks_of(alloc: Global, bytes: &[u8]) -> Result<Vec<Mark>, NoMemory>
     ensures { IfOk result (λ marks. marks.items ≡ spec.marks_of bytes.now) }
 {
-    let mut marks = Vec::new(alloc);
+    let mut marks = Vec::with_capacity(alloc, bytes.len())?;
     let mut place = 0;
     while place < bytes.len() {
         let (mark, end) = mark_at(bytes, place);

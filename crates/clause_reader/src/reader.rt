@@ -1,17 +1,14 @@
 //! `read_line`: the one answer to a line.
-ghost use Rattle.std.specs.Prelude.{◌≡◌, ◌&&◌, IfErr, IfOk, codes, not};
-ghost use Rattle.std.specs.Str.{bytes_eq};
+ghost use Rattle.std.specs.Prelude.{IfErr, IfOk};
 ghost use Rattle.clause_reader.specs.Answers.{AnswersWhatFails, AnswersWhatIsSaid, IsFaultOf};
 ghost use Rattle.clause_reader.specs.Results.{FindsBytes, Gives};
 ghost use Rattle.obo_clause.specs.ReadingLines as read;
-ghost use Rattle.obo_clause.specs.Spelling.{Says, shape_at};
+ghost use Rattle.obo_clause.specs.Spelling.{Says};
 
-use crate::bytes::{
-    behind_blank_bytes, is_line_comment, is_tag, is_word, split_at_colon, without_last_blanks,
-};
+use crate::bytes::{behind_blank_bytes, is_line_comment, split_at_colon, without_last_blanks};
 use crate::values::read_shape;
-use obo_clause::{Clause, Content, Line, LineFault, SyntaxKind};
-use obo_tags::{FrameKind, ValueShape, shape, tag_of};
+use obo_clause::{Clause, Line, LineFault, QualifiedValue, SyntaxKind, is_tag, shape_at};
+use obo_tags::FrameKind;
 use rel_io::Bytes;
 use std::alloc::Global;
 
@@ -116,7 +113,7 @@ fn read_tagged(
     let shape = shape_at(kind, first, tag);
     let tag = Bytes::from_slice(alloc, tag)?;
     match read_shape(alloc, shape, bytes) {
-        Ok(Content { value, qualifiers }) => Ok(Line::Content(Clause {
+        Ok(QualifiedValue { value, qualifiers }) => Ok(Line::Content(Clause {
             tag,
             value,
             qualifiers,
@@ -126,21 +123,4 @@ fn read_tagged(
             Err(fault)
         }
     }
-}
-
-/// The shape of the value behind the tag. An `id` that is not the first clause of its frame is foreign.
-fn shape_at(kind: FrameKind, first: bool, tag: &[u8]) -> ValueShape
-    ensures { result ≡ shape_at kind first tag.now }
-{
-    if is_late_id(first, tag) {
-        return ValueShape::Raw;
-    }
-    shape(kind, tag_of(tag))
-}
-
-/// Whether this is an `id` that is not the first clause of its frame.
-fn is_late_id(first: bool, tag: &[u8]) -> bool
-    ensures { result ≡ (bytes_eq tag.now (codes "id") && not first) }
-{
-    is_word(tag, b"id") && !first
 }

@@ -14,7 +14,7 @@ use crate::lists::list_at;
 use crate::marks::{behind_blanks, marks_of, text_if_any, text_of, trim_end};
 use crate::runs::{behind_sign, quoted_at, want_word, word_at};
 use crate::scopes::{may_have_word, scoped_at, type_scope_at};
-use obo_clause::{Content, LineFault, Mark, Qualifier, SyntaxKind, Value, Xref};
+use obo_clause::{LineFault, Mark, QualifiedValue, Qualifier, SyntaxKind, Value, Xref};
 use obo_tags::ValueShape;
 use rel_io::{Bytes, Items, NoMemory};
 use std::alloc::Global;
@@ -23,7 +23,11 @@ use std::alloc::Global;
 const TEXT_DATATYPE: &[u8] = b"xsd:string";
 
 /// What stands behind the colon, by the shape of the value there.
-pub fn read_shape(alloc: Global, shape: ValueShape, bytes: &[u8]) -> Result<Content, LineFault>
+pub fn read_shape(
+    alloc: Global,
+    shape: ValueShape,
+    bytes: &[u8],
+) -> Result<QualifiedValue, LineFault>
     ensures { Gives (read.read_shape shape bytes.now) result }
 {
     match shape {
@@ -33,7 +37,11 @@ pub fn read_shape(alloc: Global, shape: ValueShape, bytes: &[u8]) -> Result<Cont
 }
 
 /// What is made of the marks behind the colon, by the shape of the value there.
-fn read_marked(alloc: Global, shape: ValueShape, marks: &[Mark]) -> Result<Content, LineFault>
+fn read_marked(
+    alloc: Global,
+    shape: ValueShape,
+    marks: &[Mark],
+) -> Result<QualifiedValue, LineFault>
     requires { shape ≢ Raw }
     ensures { (bytes : List ℕ) → marks.now ≡ spec.marks_of bytes → Gives (read.read_shape shape bytes) result }
 {
@@ -54,12 +62,12 @@ fn read_marked(alloc: Global, shape: ValueShape, marks: &[Mark]) -> Result<Conte
 }
 
 /// The rest of a line as it stands, without outer blanks.
-fn read_raw(alloc: Global, bytes: &[u8]) -> Result<Content, LineFault>
+fn read_raw(alloc: Global, bytes: &[u8]) -> Result<QualifiedValue, LineFault>
     ensures { Gives (read.read_raw bytes.now) result }
 {
     let text = without_last_blanks(behind_blank_bytes(bytes));
     let text = Bytes::from_slice(alloc, text)?;
-    Ok(Content {
+    Ok(QualifiedValue {
         value: Value::Raw(text),
         qualifiers: Items::from_vec(Vec::new(alloc)),
     })
@@ -97,7 +105,7 @@ fn texts_to_end(
 
 /// A run of characters.
 #[tactic(auto, unfolding(obo_clause::specs::ReadingLines::read_text))]
-fn read_text(alloc: Global, marks: &[Mark]) -> Result<Content, LineFault>
+fn read_text(alloc: Global, marks: &[Mark]) -> Result<QualifiedValue, LineFault>
     ensures { Gives (read.read_text marks.now) result }
 {
     let FreeRun {
@@ -108,7 +116,7 @@ fn read_text(alloc: Global, marks: &[Mark]) -> Result<Content, LineFault>
     match qualifiers {
         None => Err(LineFault::Syntax(SyntaxKind::Trailing)),
         Some(qualifiers) => match text_of(alloc, trim_end(run)) {
-            Ok(text) => Ok(Content {
+            Ok(text) => Ok(QualifiedValue {
                 value: Value::Text(text),
                 qualifiers,
             }),
@@ -122,12 +130,12 @@ fn read_text(alloc: Global, marks: &[Mark]) -> Result<Content, LineFault>
 
 /// One word.
 #[tactic(auto, unfolding(obo_clause::specs::ReadingLines::read_id))]
-fn read_id(alloc: Global, marks: &[Mark]) -> Result<Content, LineFault>
+fn read_id(alloc: Global, marks: &[Mark]) -> Result<QualifiedValue, LineFault>
     ensures { Gives (read.read_id marks.now) result }
 {
     let (word, rest) = want_word(marks)?;
     let (word, qualifiers) = text_to_end(alloc, word, rest)?;
-    Ok(Content {
+    Ok(QualifiedValue {
         value: Value::Id(word),
         qualifiers,
     })
@@ -135,13 +143,13 @@ fn read_id(alloc: Global, marks: &[Mark]) -> Result<Content, LineFault>
 
 /// Two words.
 #[tactic(auto, unfolding(obo_clause::specs::ReadingLines::read_pair))]
-fn read_pair(alloc: Global, marks: &[Mark]) -> Result<Content, LineFault>
+fn read_pair(alloc: Global, marks: &[Mark]) -> Result<QualifiedValue, LineFault>
     ensures { Gives (read.read_pair marks.now) result }
 {
     let (first, rest) = want_word(marks)?;
     let (second, rest) = want_word(rest)?;
     let (first, second, qualifiers) = texts_to_end(alloc, first, second, rest)?;
-    Ok(Content {
+    Ok(QualifiedValue {
         value: Value::Pair(first, second),
         qualifiers,
     })
@@ -149,7 +157,7 @@ fn read_pair(alloc: Global, marks: &[Mark]) -> Result<Content, LineFault>
 
 /// One word, or two.
 #[tactic(auto, unfolding(obo_clause::specs::ReadingLines::read_id, obo_clause::specs::ReadingLines::read_pair, obo_clause::specs::ReadingLines::read_id_or_pair))]
-fn read_id_or_pair(alloc: Global, marks: &[Mark]) -> Result<Content, LineFault>
+fn read_id_or_pair(alloc: Global, marks: &[Mark]) -> Result<QualifiedValue, LineFault>
     ensures { Gives (read.read_id_or_pair marks.now) result }
 {
     let (_, rest) = want_word(marks)?;
@@ -177,13 +185,13 @@ fn truth_of(word: &Bytes) -> Result<bool, SyntaxKind>
 
 /// A truth value.
 #[tactic(auto, unfolding(obo_clause::specs::ReadingLines::read_bool))]
-fn read_bool(alloc: Global, marks: &[Mark]) -> Result<Content, LineFault>
+fn read_bool(alloc: Global, marks: &[Mark]) -> Result<QualifiedValue, LineFault>
     ensures { Gives (read.read_bool marks.now) result }
 {
     let (word, rest) = want_word(marks)?;
     let truth = truth_of(&text_of(alloc, word)?)?;
     let qualifiers = end_at(alloc, rest)?;
-    Ok(Content {
+    Ok(QualifiedValue {
         value: Value::Bool(truth),
         qualifiers,
     })
@@ -191,13 +199,13 @@ fn read_bool(alloc: Global, marks: &[Mark]) -> Result<Content, LineFault>
 
 /// A quoted text and its dbxrefs.
 #[tactic(auto, unfolding(obo_clause::specs::ReadingLines::read_definition))]
-fn read_definition(alloc: Global, marks: &[Mark]) -> Result<Content, LineFault>
+fn read_definition(alloc: Global, marks: &[Mark]) -> Result<QualifiedValue, LineFault>
     ensures { Gives (read.read_definition marks.now) result }
 {
     let (text, rest) = quoted_at(marks)?;
     let (xrefs, rest) = list_at(alloc, rest)?;
     match text_to_end(alloc, text, rest) {
-        Ok((text, qualifiers)) => Ok(Content {
+        Ok((text, qualifiers)) => Ok(QualifiedValue {
             value: Value::Def { text, xrefs },
             qualifiers,
         }),
@@ -210,7 +218,7 @@ fn read_definition(alloc: Global, marks: &[Mark]) -> Result<Content, LineFault>
 
 /// A quoted text, its scope, its type and its dbxrefs.
 #[tactic(auto, unfolding(obo_clause::specs::ReadingLines::read_synonym))]
-fn read_synonym(alloc: Global, marks: &[Mark]) -> Result<Content, LineFault>
+fn read_synonym(alloc: Global, marks: &[Mark]) -> Result<QualifiedValue, LineFault>
     ensures { Gives (read.read_synonym marks.now) result }
 {
     let (text, rest) = quoted_at(marks)?;
@@ -218,7 +226,7 @@ fn read_synonym(alloc: Global, marks: &[Mark]) -> Result<Content, LineFault>
     let (xrefs, rest) = list_at(alloc, scoped.rest)?;
     let kind = text_if_any(alloc, scoped.kind)?;
     match text_to_end(alloc, text, rest) {
-        Ok((text, qualifiers)) => Ok(Content {
+        Ok((text, qualifiers)) => Ok(QualifiedValue {
             value: Value::Synonym {
                 text,
                 scope: scoped.scope,
@@ -237,7 +245,7 @@ fn read_synonym(alloc: Global, marks: &[Mark]) -> Result<Content, LineFault>
 
 /// A run of characters, and its label.
 #[tactic(auto, unfolding(obo_clause::specs::ReadingLines::read_xref))]
-fn read_xref(alloc: Global, marks: &[Mark]) -> Result<Content, LineFault>
+fn read_xref(alloc: Global, marks: &[Mark]) -> Result<QualifiedValue, LineFault>
     ensures { Gives (read.read_xref marks.now) result }
 {
     let FreeRun {
@@ -253,7 +261,7 @@ fn read_xref(alloc: Global, marks: &[Mark]) -> Result<Content, LineFault>
     match qualifiers {
         None => labelled(alloc, id, rest),
         Some(qualifiers) => match text_of(alloc, id) {
-            Ok(id) => Ok(Content {
+            Ok(id) => Ok(QualifiedValue {
                 value: Value::XrefValue(Xref { id, label: None }),
                 qualifiers,
             }),
@@ -266,12 +274,12 @@ fn read_xref(alloc: Global, marks: &[Mark]) -> Result<Content, LineFault>
 }
 
 /// A label behind the run of an xref.
-fn labelled(alloc: Global, id: &[Mark], marks: &[Mark]) -> Result<Content, LineFault>
+fn labelled(alloc: Global, id: &[Mark], marks: &[Mark]) -> Result<QualifiedValue, LineFault>
     ensures { Gives (read.labelled (spec.read_as id.now) marks.now) result }
 {
     let (label, rest) = quoted_at(marks)?;
     let (id, label, qualifiers) = texts_to_end(alloc, id, label, rest)?;
-    Ok(Content {
+    Ok(QualifiedValue {
         value: Value::XrefValue(Xref {
             id,
             label: Some(label),
@@ -282,7 +290,7 @@ fn labelled(alloc: Global, id: &[Mark], marks: &[Mark]) -> Result<Content, LineF
 
 /// A property, and a quoted text with its datatype or a word.
 #[tactic(auto, unfolding(obo_clause::specs::ReadingLines::read_property))]
-fn read_property(alloc: Global, marks: &[Mark]) -> Result<Content, LineFault>
+fn read_property(alloc: Global, marks: &[Mark]) -> Result<QualifiedValue, LineFault>
     ensures { Gives (read.read_property marks.now) result }
 {
     let (relation, rest) = want_word(marks)?;
@@ -294,14 +302,18 @@ fn read_property(alloc: Global, marks: &[Mark]) -> Result<Content, LineFault>
 
 /// A quoted text and its datatype.
 #[tactic(auto, unfolding(obo_clause::specs::ReadingLines::read_literal))]
-fn read_literal(alloc: Global, relation: &[Mark], marks: &[Mark]) -> Result<Content, LineFault>
+fn read_literal(
+    alloc: Global,
+    relation: &[Mark],
+    marks: &[Mark],
+) -> Result<QualifiedValue, LineFault>
     ensures { Gives (read.read_literal (spec.read_as relation.now) marks.now) result }
 {
     let (text, rest) = quoted_at(marks)?;
     let (datatype, rest) = may_have_word(rest);
     let datatype = datatype_of(alloc, datatype)?;
     match texts_to_end(alloc, relation, text, rest) {
-        Ok((relation, text, qualifiers)) => Ok(Content {
+        Ok((relation, text, qualifiers)) => Ok(QualifiedValue {
             value: Value::Literal {
                 relation,
                 text,
@@ -328,12 +340,12 @@ fn datatype_of(alloc: Global, word: Option<&[Mark]>) -> Result<Bytes, LineFault>
 
 /// A word behind its property.
 #[tactic(auto, unfolding(obo_clause::specs::ReadingLines::read_link))]
-fn read_link(alloc: Global, relation: &[Mark], marks: &[Mark]) -> Result<Content, LineFault>
+fn read_link(alloc: Global, relation: &[Mark], marks: &[Mark]) -> Result<QualifiedValue, LineFault>
     ensures { Gives (read.read_link (spec.read_as relation.now) marks.now) result }
 {
     let (target, rest) = want_word(marks)?;
     let (relation, target, qualifiers) = texts_to_end(alloc, relation, target, rest)?;
-    Ok(Content {
+    Ok(QualifiedValue {
         value: Value::Link { relation, target },
         qualifiers,
     })
@@ -341,13 +353,13 @@ fn read_link(alloc: Global, relation: &[Mark], marks: &[Mark]) -> Result<Content
 
 /// A word and a quoted text.
 #[tactic(auto, unfolding(obo_clause::specs::ReadingLines::read_subset))]
-fn read_subset(alloc: Global, marks: &[Mark]) -> Result<Content, LineFault>
+fn read_subset(alloc: Global, marks: &[Mark]) -> Result<QualifiedValue, LineFault>
     ensures { Gives (read.read_subset marks.now) result }
 {
     let (id, rest) = want_word(marks)?;
     let (text, rest) = quoted_at(rest)?;
     let (id, text, qualifiers) = texts_to_end(alloc, id, text, rest)?;
-    Ok(Content {
+    Ok(QualifiedValue {
         value: Value::SubsetDef { id, text },
         qualifiers,
     })
@@ -355,14 +367,14 @@ fn read_subset(alloc: Global, marks: &[Mark]) -> Result<Content, LineFault>
 
 /// A word, a quoted text, and its scope.
 #[tactic(auto, unfolding(obo_clause::specs::ReadingLines::read_synonym_type))]
-fn read_synonym_type(alloc: Global, marks: &[Mark]) -> Result<Content, LineFault>
+fn read_synonym_type(alloc: Global, marks: &[Mark]) -> Result<QualifiedValue, LineFault>
     ensures { Gives (read.read_synonym_type marks.now) result }
 {
     let (id, rest) = want_word(marks)?;
     let (text, rest) = quoted_at(rest)?;
     let (scope, rest) = type_scope_at(alloc, rest)?;
     let (id, text, qualifiers) = texts_to_end(alloc, id, text, rest)?;
-    Ok(Content {
+    Ok(QualifiedValue {
         value: Value::SynonymDef { id, text, scope },
         qualifiers,
     })

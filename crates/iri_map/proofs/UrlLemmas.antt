@@ -6,14 +6,14 @@ use Rattle.std.specs.Str.{bytes_eq}
 use Rattle.std.proofs.lemmas.Bool.{and_parts, cases_Bool, cond-false, cond-true, false≢true, or_cases}
 use Rattle.std.proofs.lemmas.Bool.Decides.{Decides-eqb, nat_tests}
 use Rattle.std.proofs.lemmas.List.Elements.{All-append, All-weaker}
-use Rattle.std.proofs.lemmas.List.Sums.{AllPass-from_list_all}
+use Rattle.std.proofs.lemmas.List.Sums.{AllPass-from_list_all, list_all-from_AllPass}
 use Rattle.std.proofs.lemmas.Slice.Eq.{starts_is}
 use Rattle.iri_map.specs.Escape.{escaped_part, escaped_url, stays_in_url}
-use Rattle.rel_io.specs.Texts.{carriage_return, is_readable}
+use Rattle.rel_io.specs.Texts.{carriage_return, is_clean_iri, is_iri_byte, is_readable}
 use Rattle.iri_map.specs.Id.{base, is_number, is_prefix, is_url, is_word_byte, iri_of}
 use Rattle.iri_map.specs.Ontology.{ontology_iri, short_name_iri}
 use Rattle.iri_map.specs.Laws.{IsCleanUrl}
-use Rattle.iri_map.proofs.EscapeLemmas.{AllPass-escaped_part, AllPass-escaped_url, escaped_url-append, escaped_url_unchanged, implies_by_table, stays_in_url-part}
+use Rattle.iri_map.proofs.EscapeLemmas.{AllPass-escaped_part, AllPass-escaped_url, escaped_url-append, escaped_url_unchanged, implies_by_table, stays_in_url-high, stays_in_url-part}
 use Rattle.iri_map.proofs.ReadableLemmas.{is_readable-ascii}
 use Rattle.iri_map.proofs.FormLemmas.{EachForm, iri_of-each, prefix_bytes}
 
@@ -147,3 +147,13 @@ IsCleanUrl-ontology_iri value =
     (λ url. subst IsCleanUrl (sym (ontology_iri-url value url)) (IsCleanUrl-escaped_url value url))
     (λ short. subst IsCleanUrl (sym (ontology_iri-short value short)) (clean_two (escaped_part value) (codes ".owl") (stays_part value) (AllPass-from_list_all stays_in_url (codes ".owl") refl)))
     (cases_Bool (is_url value))
+
+-- ---- what stays in a URL may stand in an IRI
+
+stays_is_iri_byte : (b : ℕ) → stays_in_url b ≡ true → is_iri_byte b ≡ true
+stays_is_iri_byte = implies_by_table stays_in_url is_iri_byte refl stays_in_url-high
+
+pub is_clean_iri-url : (iri : List ℕ) → IsCleanUrl iri → is_clean_iri iri ≡ true
+unfolding is_clean_iri
+is_clean_iri-url iri is =
+    list_all-from_AllPass is_iri_byte iri (All-weaker (λ b. stays_in_url b ≡ true) (λ b. is_iri_byte b ≡ true) stays_is_iri_byte iri is.clean)

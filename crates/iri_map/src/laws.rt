@@ -1,4 +1,6 @@
 //! The laws of ids and IRIs: functions that do nothing, whose contracts are the laws.
+ghost use Rattle.std.specs.Prelude.{IsTrue};
+ghost use Rattle.rel_io.specs.Texts.{is_clean_iri};
 ghost use Rattle.iri_map.specs.Laws as law;
 ghost use Rattle.iri_map.specs.Id.{iri_of};
 ghost use Rattle.iri_map.specs.Ontology.{ontology_iri};
@@ -42,10 +44,12 @@ pub fn name_is_settled(value: &Bytes)
 
 /// The IRI of an id is a URL with nothing to escape, whatever the id is: it can stand between `<` and `>`.
 pub fn iri_is_clean(id: &Bytes, ontology: &Bytes)
-    ensures { law.IsCleanUrl (iri_of id.now ontology.now) }
+    ensures url { law.IsCleanUrl (iri_of id.now ontology.now) }
+    ensures clean { IsTrue (is_clean_iri (iri_of id.now ontology.now)) }
 {}
 
 /// The IRI of an ontology is such a URL too, whatever its name is.
 pub fn ontology_iri_is_clean(value: &Bytes)
-    ensures { law.IsCleanUrl (ontology_iri value.now) }
+    ensures url { law.IsCleanUrl (ontology_iri value.now) }
+    ensures clean { IsTrue (is_clean_iri (ontology_iri value.now)) }
 {}

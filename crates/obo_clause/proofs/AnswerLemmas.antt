@@ -57,7 +57,7 @@ module _ (kind : FrameKind) (first : Bool) where
   said-is-answer line _ (Says.frame begun is) =
       ap (answer_to kind first) is.whole ∙ (answer-behind kind first is.before (91 ∷ (is.name ++ 93 ∷ (is.behind ++ is.comment))) is.blank_before refl ∙ frame-finds begun is.name is.behind is.comment is.named is.blank_behind is.commented)
   said-is-answer line _ (Says.content clause is) =
-      tagged-answer kind first line clause.tag is.rest is.tagged ∙ tagged-finds kind first clause is.rest is.content
+      tagged-answer kind first line clause.tag is.rest is.tagged ∙ tagged-finds kind first clause is.rest is.valued
 
   -- ---- what is wrong with a line is the answer
 

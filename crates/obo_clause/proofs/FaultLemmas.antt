@@ -6,7 +6,7 @@ use Rattle.obo_clause.specs.declared.clause.Scope.TheVariants as scope
 use Rattle.obo_clause.specs.declared.clause.Value.TheVariants as value
 use Rattle.obo_clause.specs.declared.line.SyntaxKind.{SyntaxKind}
 use Rattle.obo_clause.specs.declared.line.SyntaxKind.TheVariants as syntax
-use Rattle.obo_clause.specs.declared.clause.Content.{Content}
+use Rattle.obo_clause.specs.declared.clause.QualifiedValue.{QualifiedValue}
 use Rattle.obo_clause.specs.Faults.{IsBehindBlanks, MayBeScope, MayHaveList, MayHaveScope, MayHaveWord, Stops, WantsEnd, WantsObject, WantsQuoted, WantsTruth, WantsWord, Wrong}
 use Rattle.obo_clause.specs.Marks.{Mark, read_as}
 use Rattle.obo_clause.specs.Reading.{Answer, behind_blanks, behind_sign, found, list_at, next, quoted_at, wanted, word_at}
@@ -134,13 +134,13 @@ pair-refuses marks one h =
 pub id_or_pair-wrong : (marks : List Mark) (one : SyntaxKind) → read_id_or_pair marks ≡ Err one → WantsWord (λ _. MayHaveWord (λ _. WantsEnd)) marks one
 unfolding read_id_or_pair
 id_or_pair-wrong marks one h =
-    word-wrong (λ (word : Two). found {B = Answer Content} (word_at word.1) (ended word.1 (value.Id (read_as word.0))) (λ (second : Two). ended second.1 (value.Pair (read_as word.0) (read_as second.0)))) (λ _. MayHaveWord (λ _. WantsEnd))
+    word-wrong (λ (word : Two). found {B = Answer QualifiedValue} (word_at word.1) (ended word.1 (value.Id (read_as word.0))) (λ (second : Two). ended second.1 (value.Pair (read_as word.0) (read_as second.0)))) (λ _. MayHaveWord (λ _. WantsEnd))
     (λ word. may-wrong (ended word.1 (value.Id (read_as word.0))) (λ (second : Two). ended second.1 (value.Pair (read_as word.0) (read_as second.0))) (λ _. WantsEnd) word.1 (ended-fails word.1 (value.Id (read_as word.0))) (λ second one. ended-fails second.1 (value.Pair (read_as word.0) (read_as second.0)) one)) marks one h
 
 pub id_or_pair-refuses : (marks : List Mark) (one : SyntaxKind) → WantsWord (λ _. MayHaveWord (λ _. WantsEnd)) marks one → read_id_or_pair marks ≡ Err one
 unfolding read_id_or_pair
 id_or_pair-refuses marks one h =
-    word-refuses (λ (word : Two). found {B = Answer Content} (word_at word.1) (ended word.1 (value.Id (read_as word.0))) (λ (second : Two). ended second.1 (value.Pair (read_as word.0) (read_as second.0)))) (λ _. MayHaveWord (λ _. WantsEnd))
+    word-refuses (λ (word : Two). found {B = Answer QualifiedValue} (word_at word.1) (ended word.1 (value.Id (read_as word.0))) (λ (second : Two). ended second.1 (value.Pair (read_as word.0) (read_as second.0)))) (λ _. MayHaveWord (λ _. WantsEnd))
     (λ word. may-refuses (ended word.1 (value.Id (read_as word.0))) (λ (second : Two). ended second.1 (value.Pair (read_as word.0) (read_as second.0))) (λ _. WantsEnd) word.1 (ended-refuses word.1 (value.Id (read_as word.0))) (λ second one. ended-refuses second.1 (value.Pair (read_as word.0) (read_as second.0)) one)) marks one h
 
 truth-wrong : (word : Two) (one : SyntaxKind) → next (want_truth (read_as word.0)) (λ (truth : Bool). ended word.1 (value.Bool truth)) ≡ Err one → WantsTruth (read_as word.0) word.1 one
@@ -185,7 +185,7 @@ definition-refuses marks one h =
 
 -- what goes on behind the scope and the type of a synonym
 module _ (text : List ℕ) where
-  abbrev listed_on : Scoped → Answer Content
+  abbrev listed_on : Scoped → Answer QualifiedValue
   listed_on s = next (list_at s.2) (λ (list : Listed). ended list.1 (value.Synonym text s.0 s.1 list.0))
 
   listed-wrong : (s : Scoped) (one : SyntaxKind) → listed_on s ≡ Err one → MayHaveList WantsEnd s.2 one
@@ -194,13 +194,13 @@ module _ (text : List ℕ) where
   listed-refuses : (s : Scoped) (one : SyntaxKind) → MayHaveList WantsEnd s.2 one → listed_on s ≡ Err one
   listed-refuses s one h = list-refuses (λ (list : Listed). ended list.1 (value.Synonym text s.0 s.1 list.0)) WantsEnd (λ listed. ended-refuses listed.1 (value.Synonym text s.0 s.1 listed.0)) s.2 one h
 
-  abbrev after_scope : Scope → Two → Answer Content
+  abbrev after_scope : Scope → Two → Answer QualifiedValue
   after_scope one type = listed_on (one, Some (read_as type.0), type.1)
 
-  type-through : (one : Scope) (marks : List Mark) → listed_on (type_behind one marks) ≡ found {B = Answer Content} (word_at marks) (listed_on (one, None, marks)) (after_scope one)
+  type-through : (one : Scope) (marks : List Mark) → listed_on (type_behind one marks) ≡ found {B = Answer QualifiedValue} (word_at marks) (listed_on (one, None, marks)) (after_scope one)
   type-through one marks = through listed_on (word_at marks) (one, None, marks) (λ (type : Two). (one, Some (read_as type.0), type.1))
 
-  abbrev after_word : List ℕ → List Mark → Answer Content
+  abbrev after_word : List ℕ → List Mark → Answer QualifiedValue
   after_word word marks = listed_on (found {B = Scoped} (scope_of word) (scope.Related, Some word, marks) (λ (one : Scope). type_behind one marks))
 
   scope-wrong : (word : List ℕ) (marks : List Mark) (one : SyntaxKind) → after_word word marks ≡ Err one → MayHaveScope (MayHaveList WantsEnd) (Some word) marks one
@@ -212,7 +212,7 @@ module _ (text : List ℕ) where
           let may = may-wrong (listed_on (said, None, marks)) (after_scope said) (λ _. MayHaveList WantsEnd) marks (listed-wrong (said, None, marks)) (λ type. listed-wrong (said, Some (read_as type.0), type.1)) one (sym (type-through said marks) ∙ h) in
           subst (λ w. MayHaveScope (MayHaveList WantsEnd) (Some w) marks one) (sym (scope-is word said e)) (MayHaveScope.scoped marks said one may)
 
-  abbrev after_option : Option (List ℕ) → List Mark → Answer Content
+  abbrev after_option : Option (List ℕ) → List Mark → Answer QualifiedValue
   after_option None marks = listed_on (scope.Related, None, marks)
   after_option (Some word) marks = after_word word marks
 
@@ -225,7 +225,7 @@ module _ (text : List ℕ) where
       ap (λ o. listed_on (found {B = Scoped} o (scope.Related, Some word, marks) (λ (one : Scope). type_behind one marks))) (scope-none word never)
       ∙ listed-refuses (scope.Related, Some word, marks) one fails
 
-  scoped-through : (marks : List Mark) → listed_on (scoped_at marks) ≡ found {B = Answer Content} (word_at marks) (listed_on (scope.Related, None, marks)) (λ (word : Two). after_word (read_as word.0) word.1)
+  scoped-through : (marks : List Mark) → listed_on (scoped_at marks) ≡ found {B = Answer QualifiedValue} (word_at marks) (listed_on (scope.Related, None, marks)) (λ (word : Two). after_word (read_as word.0) word.1)
   unfolding scoped_at
   scoped-through marks =
       through listed_on (word_at marks) (scope.Related, None, marks) (λ (word : Two). found {B = Scoped} (scope_of (read_as word.0)) (scope.Related, Some (read_as word.0), word.1) (λ (one : Scope). type_behind one word.1))
@@ -256,10 +256,10 @@ synonym-refuses marks one h =
 -- ---- properties
 
 module _ (relation : List ℕ) (text : List ℕ) where
-  abbrev typed_on : Option (List Mark) × List Mark → Answer Content
+  abbrev typed_on : Option (List Mark) × List Mark → Answer QualifiedValue
   typed_on more = ended more.1 (value.Literal relation text (datatype_of more.0))
 
-  typed-through : (marks : List Mark) → typed_on (may_have_word marks) ≡ found {B = Answer Content} (word_at marks) (typed_on (None, marks)) (λ (word : Two). typed_on (Some word.0, word.1))
+  typed-through : (marks : List Mark) → typed_on (may_have_word marks) ≡ found {B = Answer QualifiedValue} (word_at marks) (typed_on (None, marks)) (λ (word : Two). typed_on (Some word.0, word.1))
   typed-through marks = through typed_on (word_at marks) (None, marks) (λ (word : Two). (Some word.0, word.1))
 
   typed-wrong : (marks : List Mark) (one : SyntaxKind) → typed_on (may_have_word marks) ≡ Err one → MayHaveWord (λ _. WantsEnd) marks one
@@ -290,22 +290,22 @@ unfolding read_link
 link-refuses relation marks one h =
     word-refuses (λ (target : Two). ended target.1 (value.Link relation (read_as target.0))) (λ _. WantsEnd) (λ target. ended-refuses target.1 (value.Link relation (read_as target.0))) marks one h
 
-abbrev object_on : Two → Answer Content
-object_on word = found {B = Answer Content} (behind_sign 34 (behind_blanks word.1)) (read_link (read_as word.0) word.1) (λ (_ : List Mark). read_literal (read_as word.0) word.1)
+abbrev object_on : Two → Answer QualifiedValue
+object_on word = found {B = Answer QualifiedValue} (behind_sign 34 (behind_blanks word.1)) (read_link (read_as word.0) word.1) (λ (_ : List Mark). read_literal (read_as word.0) word.1)
 
 object-wrong : (word : Two) (one : SyntaxKind) → object_on word ≡ Err one → WantsObject word.1 one
 object-wrong word one h = go (behind_sign 34 (behind_blanks word.1)) refl h
   where
-    go : (o : Option (List Mark)) → behind_sign 34 (behind_blanks word.1) ≡ o → found {B = Answer Content} o (read_link (read_as word.0) word.1) (λ (_ : List Mark). read_literal (read_as word.0) word.1) ≡ Err one → WantsObject word.1 one
+    go : (o : Option (List Mark)) → behind_sign 34 (behind_blanks word.1) ≡ o → found {B = Answer QualifiedValue} o (read_link (read_as word.0) word.1) (λ (_ : List Mark). read_literal (read_as word.0) word.1) ≡ Err one → WantsObject word.1 one
     go None e h = WantsObject.word (behind_blanks word.1) one (blanks-at word.1) (quote_stops (behind_blanks word.1) e) (link-wrong (read_as word.0) word.1 one h)
     go (Some inside) e h = WantsObject.text inside one (subst (IsBehindBlanks word.1) (behind_sign-found 34 (behind_blanks word.1) inside e) (blanks-at word.1)) (literal-wrong (read_as word.0) word.1 one h)
 
 object-refuses : (word : Two) (one : SyntaxKind) → WantsObject word.1 one → object_on word ≡ Err one
 object-refuses word _ (WantsObject.text rest one at fails) =
-    ap (λ l. found {B = Answer Content} (behind_sign 34 l) (read_link (read_as word.0) word.1) (λ (_ : List Mark). read_literal (read_as word.0) word.1)) (blanks-of word.1 (quote ∷ rest) at) ∙ literal-refuses (read_as word.0) word.1 one fails
+    ap (λ l. found {B = Answer QualifiedValue} (behind_sign 34 l) (read_link (read_as word.0) word.1) (λ (_ : List Mark). read_literal (read_as word.0) word.1)) (blanks-of word.1 (quote ∷ rest) at) ∙ literal-refuses (read_as word.0) word.1 one fails
 object-refuses word _ (WantsObject.word rest one at stops fails) =
-    ap (λ l. found {B = Answer Content} (behind_sign 34 l) (read_link (read_as word.0) word.1) (λ (_ : List Mark). read_literal (read_as word.0) word.1)) (blanks-of word.1 rest at)
-    ∙ (ap (λ o. found {B = Answer Content} o (read_link (read_as word.0) word.1) (λ (_ : List Mark). read_literal (read_as word.0) word.1)) (no_quote rest stops) ∙ link-refuses (read_as word.0) word.1 one fails)
+    ap (λ l. found {B = Answer QualifiedValue} (behind_sign 34 l) (read_link (read_as word.0) word.1) (λ (_ : List Mark). read_literal (read_as word.0) word.1)) (blanks-of word.1 rest at)
+    ∙ (ap (λ o. found {B = Answer QualifiedValue} o (read_link (read_as word.0) word.1) (λ (_ : List Mark). read_literal (read_as word.0) word.1)) (no_quote rest stops) ∙ link-refuses (read_as word.0) word.1 one fails)
 
 pub property-wrong : (marks : List Mark) (one : SyntaxKind) → read_property marks ≡ Err one → WantsWord (λ _. WantsObject) marks one
 unfolding read_property
@@ -330,13 +330,13 @@ subset-refuses marks one h =
     (λ word. quoted-refuses (λ (text : Two). ended text.1 (value.SubsetDef (read_as word.0) (read_as text.0))) WantsEnd (λ text. ended-refuses text.1 (value.SubsetDef (read_as word.0) (read_as text.0))) word.1) marks one h
 
 module _ (id text : List ℕ) where
-  abbrev said_on : Answer TypeScope → Answer Content
+  abbrev said_on : Answer TypeScope → Answer QualifiedValue
   said_on answer = next answer (λ (said : TypeScope). ended said.1 (value.SynonymDef id text said.0))
 
-  abbrev scope_on : Two → Answer Content
+  abbrev scope_on : Two → Answer QualifiedValue
   scope_on word = said_on (next {A = Scope} {B = TypeScope} (wanted syntax.Trailing (scope_of (read_as word.0))) (λ (one : Scope). Ok (Some one, word.1)))
 
-  said-through : (marks : List Mark) → said_on (type_scope_at marks) ≡ found {B = Answer Content} (word_at marks) (ended marks (value.SynonymDef id text None)) scope_on
+  said-through : (marks : List Mark) → said_on (type_scope_at marks) ≡ found {B = Answer QualifiedValue} (word_at marks) (ended marks (value.SynonymDef id text None)) scope_on
   unfolding type_scope_at
   said-through marks = through said_on (word_at marks) (Ok (None, marks)) (λ (word : Two). next {A = Scope} {B = TypeScope} (wanted syntax.Trailing (scope_of (read_as word.0))) (λ (one : Scope). Ok (Some one, word.1)))
 
@@ -348,7 +348,7 @@ module _ (id text : List ℕ) where
       go (Some said) e h =
           subst (λ w. MayBeScope (Some w) word.1 one) (sym (scope-is (read_as word.0) said e)) (MayBeScope.scoped word.1 said one (ended-fails word.1 (value.SynonymDef id text (Some said)) one h))
 
-  abbrev scope_after : Option (List ℕ) → List Mark → Answer Content
+  abbrev scope_after : Option (List ℕ) → List Mark → Answer QualifiedValue
   scope_after None marks = ended marks (value.SynonymDef id text None)
   scope_after (Some word) marks = said_on (next {A = Scope} {B = TypeScope} (wanted syntax.Trailing (scope_of word)) (λ (one : Scope). Ok (Some one, marks)))
 

@@ -1,13 +1,16 @@
 pub mod AnswerLemmas
-pub mod ContentLemmas
 pub mod EndingLemmas
 pub mod FaultLemmas
 pub mod FieldLemmas
+pub mod FitLemmas
+pub mod ForeignLemmas
 pub mod FreeLemmas
 pub mod LineLemmas
 pub mod ListLemmas
+pub mod QualifiedLemmas
 pub mod RunLemmas
 pub mod RunningText
+pub mod ShapeLemmas
 pub mod SignLemmas
 pub mod SlotLemmas
 pub mod TagLemmas

@@ -13,14 +13,14 @@ use Rattle.obo_clause.specs.declared.line.Line.{Line}
 use Rattle.obo_clause.specs.declared.line.Line.TheVariants as says
 use Rattle.obo_clause.specs.declared.line.SyntaxKind.{SyntaxKind}
 use Rattle.obo_clause.specs.declared.line.SyntaxKind.TheVariants as syntax
-use Rattle.obo_clause.specs.declared.clause.Content.{Content}
+use Rattle.obo_clause.specs.declared.clause.QualifiedValue.{QualifiedValue}
 use Rattle.obo_clause.specs.Faults.{Fails, Stops, ValueFails}
 use Rattle.obo_clause.specs.Marks.{marks_of}
 use Rattle.obo_clause.specs.Reading.{Answer, behind, found, front, trim_end, wanted}
-use Rattle.obo_clause.specs.ReadingLines.{Named, answer_to, at_colon, behind_start, content, frame_name, instance_name, is_line_comment, is_tag, later_name, read_clause, read_frame, read_shape, read_tagged, read_trimmed}
-use Rattle.obo_clause.specs.Spelling.{IsContent, IsFrameLine, IsKindName, IsLineComment, IsTagged, Says, shape_at}
+use Rattle.obo_clause.specs.ReadingLines.{Named, answer_to, at_colon, behind_start, qualified_value, frame_name, instance_name, is_line_comment, is_tag, later_name, read_clause, read_frame, read_shape, read_tagged, read_trimmed}
+use Rattle.obo_clause.specs.Spelling.{IsQualifiedValue, IsFrameLine, IsKindName, IsLineComment, IsTagged, Says, shape_at}
 use Rattle.obo_clause.specs.Vocabulary.{is_tag_byte}
-use Rattle.obo_clause.proofs.ContentLemmas.{content-found, content-is, content-refuses, content-wrong}
+use Rattle.obo_clause.proofs.QualifiedLemmas.{qualified_value-found, qualified_value-is, qualified_value-refuses, qualified_value-wrong}
 use Rattle.obo_clause.proofs.RunLemmas.{behind-run, run-passes, run-whole}
 use Rattle.obo_clause.proofs.TagLemmas.{TagParts, byte-not, tag-parts}
 use Rattle.obo_clause.proofs.TailLemmas.{WentWrong, not-on, on-with, went-on, went-wrong}
@@ -167,7 +167,7 @@ pub clause-no_colon : (kind : FrameKind) (first : Bool) (body : List ℕ) → at
 unfolding read_clause
 clause-no_colon kind first body e = not-on (wanted syntax.NoColon (at_colon body)) (clause_on kind first) syntax.NoColon (ap (wanted syntax.NoColon) e)
 
-abbrev said_of : List ℕ → Content → Answer Line
+abbrev said_of : List ℕ → QualifiedValue → Answer Line
 said_of tag read = Ok (says.Content (record { tag = tag; value = read.value; qualifiers = read.qualifiers }))
 
 pub tagged-says : (kind : FrameKind) (first : Bool) (line tag rest : List ℕ) (said : Line) → IsTagged line tag rest → read_tagged kind first tag rest ≡ Ok said → Says kind first line said
@@ -175,25 +175,25 @@ unfolding read_tagged
 tagged-says kind first line tag rest said is h =
     let n = went-on (read_shape (shape_at kind first tag) rest) (said_of tag) said h in
     let clause : Clause = record { tag = tag; value = n.got.value; qualifiers = n.got.qualifiers } in
-    subst (Says kind first line) (same-ok (says.Content clause) said n.on) (Says.content clause (record { rest = rest; tagged = is; content = content-found (shape_at kind first tag) rest n.got n.found }))
+    subst (Says kind first line) (same-ok (says.Content clause) said n.on) (Says.content clause (record { rest = rest; tagged = is; valued = qualified_value-found (shape_at kind first tag) rest n.got n.found }))
 
 pub tagged-fails : (kind : FrameKind) (first : Bool) (line tag rest : List ℕ) (one : SyntaxKind) → IsTagged line tag rest → read_tagged kind first tag rest ≡ Err one → Fails kind first line one
 unfolding read_tagged
 tagged-fails kind first line tag rest one is h = go (went-wrong (read_shape (shape_at kind first tag) rest) (said_of tag) one h)
   where
     go : WentWrong (read_shape (shape_at kind first tag) rest) (said_of tag) one → Fails kind first line one
-    go (WentWrong.at_once e) = Fails.bad_value tag rest one is (content-wrong (shape_at kind first tag) rest one e)
+    go (WentWrong.at_once e) = Fails.bad_value tag rest one is (qualified_value-wrong (shape_at kind first tag) rest one e)
     go (WentWrong.later read e h) = cc
 
-pub tagged-finds : (kind : FrameKind) (first : Bool) (clause : Clause) (rest : List ℕ) → IsContent (shape_at kind first clause.tag) rest clause.value clause.qualifiers → read_tagged kind first clause.tag rest ≡ Ok (says.Content clause)
+pub tagged-finds : (kind : FrameKind) (first : Bool) (clause : Clause) (rest : List ℕ) → IsQualifiedValue (shape_at kind first clause.tag) rest clause.value clause.qualifiers → read_tagged kind first clause.tag rest ≡ Ok (says.Content clause)
 unfolding read_tagged
 tagged-finds kind first clause rest is =
-    on-with (read_shape (shape_at kind first clause.tag) rest) (said_of clause.tag) (content clause.value clause.qualifiers) (content-is (shape_at kind first clause.tag) rest clause.value clause.qualifiers is)
+    on-with (read_shape (shape_at kind first clause.tag) rest) (said_of clause.tag) (qualified_value clause.value clause.qualifiers) (qualified_value-is (shape_at kind first clause.tag) rest clause.value clause.qualifiers is)
 
 pub tagged-refuses : (kind : FrameKind) (first : Bool) (tag rest : List ℕ) (one : SyntaxKind) → ValueFails (shape_at kind first tag) (marks_of rest) one → read_tagged kind first tag rest ≡ Err one
 unfolding read_tagged
 tagged-refuses kind first tag rest one fails =
-    not-on (read_shape (shape_at kind first tag) rest) (said_of tag) one (content-refuses (shape_at kind first tag) rest one fails)
+    not-on (read_shape (shape_at kind first tag) rest) (said_of tag) one (qualified_value-refuses (shape_at kind first tag) rest one fails)
 
 -- the answer to a line with a tag goes by what stands behind the colon
 pub tagged-answer : (kind : FrameKind) (first : Bool) (line tag rest : List ℕ) → IsTagged line tag rest → answer_to kind first line ≡ read_tagged kind first tag rest

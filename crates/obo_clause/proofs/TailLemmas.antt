@@ -10,12 +10,12 @@ use Rattle.obo_clause.specs.declared.clause.Scope.TheVariants as scope
 use Rattle.obo_clause.specs.declared.clause.Value.{Value}
 use Rattle.obo_clause.specs.declared.line.SyntaxKind.{SyntaxKind}
 use Rattle.obo_clause.specs.declared.line.SyntaxKind.TheVariants as syntax
-use Rattle.obo_clause.specs.declared.clause.Content.{Content}
+use Rattle.obo_clause.specs.declared.clause.QualifiedValue.{QualifiedValue}
 use Rattle.obo_clause.specs.Faults.{IsBehindBlanks, Stops, WantsEnd}
 use Rattle.obo_clause.specs.Grammar.{AreBlanks, IsEnding}
 use Rattle.obo_clause.specs.Marks.{Mark}
 use Rattle.obo_clause.specs.Reading.{Answer, behind_blanks, end_at, ending_at, next, wanted, word_at}
-use Rattle.obo_clause.specs.ReadingLines.{content, ended, scope_of, truth_of, want_word}
+use Rattle.obo_clause.specs.ReadingLines.{qualified_value, ended, scope_of, truth_of, want_word}
 use Rattle.obo_clause.specs.Spelling.{IsNoScope, bool_word, scope_word}
 use Rattle.obo_clause.specs.Vocabulary.{block_open, exclamation, is_space, is_word_mark}
 use Rattle.obo_clause.proofs.EndingLemmas.{ending-begins, ending-finds, ending-found}
@@ -54,7 +54,7 @@ not-on answer go_on one e = ap (λ a. next a go_on) e
 -- ---- endings behind a value
 
 -- blanks and an ending, behind this value
-pub record Tail (rest : List Mark) (value : Value) (one : Content) : Type 0 where
+pub record Tail (rest : List Mark) (value : Value) (one : QualifiedValue) : Type 0 where
   pub between : List Mark
   pub ending : List Mark
   pub whole : rest ≡ between ++ ending
@@ -62,21 +62,21 @@ pub record Tail (rest : List Mark) (value : Value) (one : Content) : Type 0 wher
   pub is : IsEnding ending one.qualifiers
   pub same : value ≡ one.value
 
-tail-step : (rest : List Mark) (value : Value) (one : Content) (o : Option (List Qualifier)) → ending_at (behind_blanks rest) ≡ o → next {B = Content} (wanted syntax.Trailing o) (λ (qualifiers : List Qualifier). Ok (content value qualifiers)) ≡ Ok one → Tail rest value one
+tail-step : (rest : List Mark) (value : Value) (one : QualifiedValue) (o : Option (List Qualifier)) → ending_at (behind_blanks rest) ≡ o → next {B = QualifiedValue} (wanted syntax.Trailing o) (λ (qualifiers : List Qualifier). Ok (qualified_value value qualifiers)) ≡ Ok one → Tail rest value one
 tail-step rest value one None e h = cc
 tail-step rest value one (Some qualifiers) e h =
-    let same = same-ok (content value qualifiers) one h in
+    let same = same-ok (qualified_value value qualifiers) one h in
     let at = blanks-at rest in
     record {
       between = at.blanks;
       ending = behind_blanks rest;
       whole = at.whole;
       blank = at.blank;
-      is = subst (λ (c : Content). IsEnding (behind_blanks rest) c.qualifiers) same (ending-found (behind_blanks rest) qualifiers e);
-      same = ap (λ (c : Content). c.value) same;
+      is = subst (λ (c : QualifiedValue). IsEnding (behind_blanks rest) c.qualifiers) same (ending-found (behind_blanks rest) qualifiers e);
+      same = ap (λ (c : QualifiedValue). c.value) same;
     }
 
-pub ended-ok : (rest : List Mark) (value : Value) (one : Content) → ended rest value ≡ Ok one → Tail rest value one
+pub ended-ok : (rest : List Mark) (value : Value) (one : QualifiedValue) → ended rest value ≡ Ok one → Tail rest value one
 unfolding end_at
 ended-ok rest value one h = tail-step rest value one (ending_at (behind_blanks rest)) refl h
 
@@ -84,12 +84,12 @@ pub end-finds : (between ending : List Mark) (qualifiers : List Qualifier) → A
 end-finds between ending qualifiers blank is =
     ap ending_at (blanks-behind between ending blank (ending-begins is_space ending qualifiers is refl refl)) ∙ ending-finds ending qualifiers is
 
-pub ended-finds : (between ending : List Mark) (qualifiers : List Qualifier) (value : Value) → AreBlanks between → IsEnding ending qualifiers → ended (between ++ ending) value ≡ Ok (content value qualifiers)
+pub ended-finds : (between ending : List Mark) (qualifiers : List Qualifier) (value : Value) → AreBlanks between → IsEnding ending qualifiers → ended (between ++ ending) value ≡ Ok (qualified_value value qualifiers)
 unfolding end_at
 ended-finds between ending qualifiers value blank is =
-    ap (λ o. next {B = Content} (wanted syntax.Trailing o) (λ (qualifiers : List Qualifier). Ok (content value qualifiers))) (end-finds between ending qualifiers blank is)
+    ap (λ o. next {B = QualifiedValue} (wanted syntax.Trailing o) (λ (qualifiers : List Qualifier). Ok (qualified_value value qualifiers))) (end-finds between ending qualifiers blank is)
 
-end-wrong : (rest : List Mark) (value : Value) (one : SyntaxKind) (o : Option (List Qualifier)) → ending_at (behind_blanks rest) ≡ o → next {B = Content} (wanted syntax.Trailing o) (λ (qualifiers : List Qualifier). Ok (content value qualifiers)) ≡ Err one → WantsEnd rest one
+end-wrong : (rest : List Mark) (value : Value) (one : SyntaxKind) (o : Option (List Qualifier)) → ending_at (behind_blanks rest) ≡ o → next {B = QualifiedValue} (wanted syntax.Trailing o) (λ (qualifiers : List Qualifier). Ok (qualified_value value qualifiers)) ≡ Err one → WantsEnd rest one
 end-wrong rest value one (Some qualifiers) e h = cc
 end-wrong rest value one None e h =
     let same : syntax.Trailing ≡ one = cc in
@@ -106,8 +106,8 @@ none-there marks (Some qualifiers) e never = absurd (never qualifiers (ending-fo
 pub ended-refuses : (rest : List Mark) (value : Value) (one : SyntaxKind) → WantsEnd rest one → ended rest value ≡ Err one
 unfolding end_at
 ended-refuses rest value _ (WantsEnd.trailing left at never) =
-    ap (λ l. next {B = Content} (wanted syntax.Trailing (ending_at l)) (λ (qualifiers : List Qualifier). Ok (content value qualifiers))) (blanks-of rest left at)
-    ∙ ap (λ o. next {B = Content} (wanted syntax.Trailing o) (λ (qualifiers : List Qualifier). Ok (content value qualifiers))) (none-there left (ending_at left) refl never)
+    ap (λ l. next {B = QualifiedValue} (wanted syntax.Trailing (ending_at l)) (λ (qualifiers : List Qualifier). Ok (qualified_value value qualifiers))) (blanks-of rest left at)
+    ∙ ap (λ o. next {B = QualifiedValue} (wanted syntax.Trailing o) (λ (qualifiers : List Qualifier). Ok (qualified_value value qualifiers))) (none-there left (ending_at left) refl never)
 
 -- what an ending stops, it stops behind blanks
 pub tail-stops : (test : Mark → Bool) → ((mark : Mark) → is_space mark ≡ true → test mark ≡ false) → (between ending : List Mark) (qualifiers : List Qualifier) → AreBlanks between → IsEnding ending qualifiers → test exclamation ≡ false → test block_open ≡ false → Stops test (between ++ ending)

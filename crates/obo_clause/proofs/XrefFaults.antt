@@ -7,12 +7,12 @@ use Rattle.obo_clause.specs.declared.clause.Qualifier.{Qualifier}
 use Rattle.obo_clause.specs.declared.clause.Value.TheVariants as value
 use Rattle.obo_clause.specs.declared.line.SyntaxKind.{SyntaxKind}
 use Rattle.obo_clause.specs.declared.line.SyntaxKind.TheVariants as syntax
-use Rattle.obo_clause.specs.declared.clause.Content.{Content}
+use Rattle.obo_clause.specs.declared.clause.QualifiedValue.{QualifiedValue}
 use Rattle.obo_clause.specs.Faults.{IsBehindBlanks, WantsXref}
 use Rattle.obo_clause.specs.Grammar.{AreBlanks, IsFree}
 use Rattle.obo_clause.specs.Marks.{Mark, read_as}
 use Rattle.obo_clause.specs.Reading.{Answer, behind_blanks, behind_sign, ending_at, found, free_run, inside_quotes, next, quoted_at, stops_run, trim_end, wanted}
-use Rattle.obo_clause.specs.ReadingLines.{content, ended, labelled, read_text, read_xref, xref}
+use Rattle.obo_clause.specs.ReadingLines.{qualified_value, ended, labelled, read_text, read_xref, xref}
 use Rattle.obo_clause.specs.Vocabulary.{is_quoted_mark, is_space, quote}
 use Rattle.obo_clause.proofs.EndingLemmas.{ending-finds, ending-found}
 use Rattle.obo_clause.proofs.FreeLemmas.{free_run-stops}
@@ -40,7 +40,7 @@ text-never marks one h =
     let some : is_some (ending_at r.1) ≡ true = sym (or-nothing (is_some (ending_at r.1))) ∙ t.stops in
     go r (ending_at r.1) refl some h
   where
-    go : (r : Two) (o : Option (List Qualifier)) → ending_at r.1 ≡ o → is_some (ending_at r.1) ≡ true → next {B = Content} (wanted syntax.Trailing o) (λ (qualifiers : List Qualifier). Ok (content (value.Text (read_as (trim_end is_space r.0))) qualifiers)) ≡ Err one → ⊥
+    go : (r : Two) (o : Option (List Qualifier)) → ending_at r.1 ≡ o → is_some (ending_at r.1) ≡ true → next {B = QualifiedValue} (wanted syntax.Trailing o) (λ (qualifiers : List Qualifier). Ok (qualified_value (value.Text (read_as (trim_end is_space r.0))) qualifiers)) ≡ Err one → ⊥
     go r (Some qualifiers) e some h = cc
     go r None e some h = none-some (ending_at r.1) some e
 
@@ -94,7 +94,7 @@ label-wrong marks rest id one same some none h =
             absurd (let both : true ≡ false = sym (pass-head is_space x blanks blank) ∙ ap is_space same in cc)
 
 run-wrong : (marks : List Mark) (one : SyntaxKind) (b : Bool) (o : Option (List Qualifier)) → let r = free_run true (behind_blanks marks) in (length r.0 == 0) ≡ b → ending_at r.1 ≡ o
-    → cond {A = Answer Content} b (Err syntax.NoValue) (found {B = Answer Content} o (labelled (read_as (trim_end is_space r.0)) r.1) (λ (qualifiers : List Qualifier). Ok (content (xref (read_as (trim_end is_space r.0)) None) qualifiers))) ≡ Err one → WantsXref marks one
+    → cond {A = Answer QualifiedValue} b (Err syntax.NoValue) (found {B = Answer QualifiedValue} o (labelled (read_as (trim_end is_space r.0)) r.1) (λ (qualifiers : List Qualifier). Ok (qualified_value (xref (read_as (trim_end is_space r.0)) None) qualifiers))) ≡ Err one → WantsXref marks one
 run-wrong marks one true o e f h =
     let r = free_run true (behind_blanks marks) in
     let t = text-read true marks in
@@ -119,8 +119,8 @@ xref-wrong marks one h =
 
 -- ---- and back
 
-abbrev read_run : Two → Answer Content
-read_run r = cond {A = Answer Content} (length r.0 == 0) (Err syntax.NoValue) (found {B = Answer Content} (ending_at r.1) (labelled (read_as (trim_end is_space r.0)) r.1) (λ (qualifiers : List Qualifier). Ok (content (xref (read_as (trim_end is_space r.0)) None) qualifiers)))
+abbrev read_run : Two → Answer QualifiedValue
+read_run r = cond {A = Answer QualifiedValue} (length r.0 == 0) (Err syntax.NoValue) (found {B = Answer QualifiedValue} (ending_at r.1) (labelled (read_as (trim_end is_space r.0)) r.1) (λ (qualifiers : List Qualifier). Ok (qualified_value (xref (read_as (trim_end is_space r.0)) None) qualifiers)))
 
 xref-of : (marks rest : List Mark) (r : Two) → behind_blanks marks ≡ rest → free_run true rest ≡ r → read_xref marks ≡ read_run r
 unfolding read_xref
@@ -137,8 +137,8 @@ no-ending-there inside = refl
 run-quote : (marks id inside : List Mark) → IsBehindBlanks marks (id ++ quote ∷ inside) → 0 < length id → AllPass is_quoted_mark id → IsFree id (quote ∷ inside) → read_xref marks ≡ labelled (read_as (trim_end is_space id)) (quote ∷ inside)
 run-quote marks id inside at some each free =
     xref-of marks (id ++ quote ∷ inside) (id, quote ∷ inside) (blanks-of marks (id ++ quote ∷ inside) at) (free-finds true id (quote ∷ inside) free (λ _. each) (quote-stops inside))
-    ∙ (ap (λ b. cond {A = Answer Content} b (Err syntax.NoValue) (found {B = Answer Content} (ending_at (quote ∷ inside)) (labelled (read_as (trim_end is_space id)) (quote ∷ inside)) (λ (qualifiers : List Qualifier). Ok (content (xref (read_as (trim_end is_space id)) None) qualifiers)))) (ne_eqb (length id) 0 (λ e. omega (arith, e)))
-    ∙ ap (λ o. found {B = Answer Content} o (labelled (read_as (trim_end is_space id)) (quote ∷ inside)) (λ (qualifiers : List Qualifier). Ok (content (xref (read_as (trim_end is_space id)) None) qualifiers))) (no-ending-there inside))
+    ∙ (ap (λ b. cond {A = Answer QualifiedValue} b (Err syntax.NoValue) (found {B = Answer QualifiedValue} (ending_at (quote ∷ inside)) (labelled (read_as (trim_end is_space id)) (quote ∷ inside)) (λ (qualifiers : List Qualifier). Ok (qualified_value (xref (read_as (trim_end is_space id)) None) qualifiers)))) (ne_eqb (length id) 0 (λ e. omega (arith, e)))
+    ∙ ap (λ o. found {B = Answer QualifiedValue} o (labelled (read_as (trim_end is_space id)) (quote ∷ inside)) (λ (qualifiers : List Qualifier). Ok (qualified_value (xref (read_as (trim_end is_space id)) None) qualifiers))) (no-ending-there inside))
 
 quote-place : (inside rest : List Mark) → AllPass is_quoted_mark inside → quoted_at (quote ∷ (inside ++ quote ∷ rest)) ≡ Ok (inside, rest)
 quote-place inside rest each = quoted-finds (quote ∷ (inside ++ quote ∷ rest)) inside rest (record { blanks = []; whole = refl; blank = pass-nil is_space; each = each })

@@ -1,4 +1,6 @@
 pub mod Faults
+pub mod Fits
+pub mod Foreign
 pub mod Grammar
 pub mod Laws
 pub mod Marks
@@ -7,3 +9,4 @@ pub mod ReadingLines
 pub mod Spelled
 pub mod Spelling
 pub mod Vocabulary
+pub mod inner

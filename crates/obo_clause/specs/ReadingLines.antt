@@ -17,41 +17,41 @@ use Rattle.obo_clause.specs.declared.clause.Xref.{Xref}
 use Rattle.obo_clause.specs.declared.line.Line.{Line}
 use Rattle.obo_clause.specs.declared.line.Line.TheVariants as says
 use Rattle.obo_clause.specs.declared.line.SyntaxKind.TheVariants as syntax
-use Rattle.obo_clause.specs.declared.clause.Content.{Content}
+use Rattle.obo_clause.specs.declared.clause.QualifiedValue.{QualifiedValue}
 use Rattle.obo_clause.specs.Marks.{Mark, marks_of, read_as}
 use Rattle.obo_clause.specs.Reading.{Answer, behind, behind_blanks, behind_sign, end_at, ending_at, found, free_run, front, list_at, next, quoted_at, trim, trim_end, wanted, word_at}
 use Rattle.obo_clause.specs.Spelling.{scope_word, shape_at, text_datatype}
 use Rattle.obo_clause.specs.Vocabulary.{is_space, is_tag_byte}
 
 -- a value and the qualifiers of the ending behind it
-abbrev pub content : Value → List Qualifier → Content
-content one qualifiers = record { value = one; qualifiers = qualifiers }
+abbrev pub qualified_value : Value → List Qualifier → QualifiedValue
+qualified_value one qualifiers = record { value = one; qualifiers = qualifiers }
 
 -- a value, where an ending stands behind it
-abbrev pub ended : List Mark → Value → Answer Content
-ended marks one = next (end_at marks) (λ (qualifiers : List Qualifier). Ok (content one qualifiers))
+abbrev pub ended : List Mark → Value → Answer QualifiedValue
+ended marks one = next (end_at marks) (λ (qualifiers : List Qualifier). Ok (qualified_value one qualifiers))
 
 -- a word that is wanted
 abbrev pub want_word : List Mark → Answer (List Mark × List Mark)
 want_word marks = wanted syntax.NoValue (word_at marks)
 
-unfoldable pub read_text : List Mark → Answer Content
+unfoldable pub read_text : List Mark → Answer QualifiedValue
 read_text marks =
     let run = free_run false (behind_blanks marks) in
     next (wanted syntax.Trailing (ending_at run.1)) (λ (qualifiers : List Qualifier).
-    Ok (content (value.Text (read_as (trim_end is_space run.0))) qualifiers))
+    Ok (qualified_value (value.Text (read_as (trim_end is_space run.0))) qualifiers))
 
-unfoldable pub read_id : List Mark → Answer Content
+unfoldable pub read_id : List Mark → Answer QualifiedValue
 read_id marks =
     next (want_word marks) (λ (word : List Mark × List Mark). ended word.1 (value.Id (read_as word.0)))
 
-unfoldable pub read_pair : List Mark → Answer Content
+unfoldable pub read_pair : List Mark → Answer QualifiedValue
 read_pair marks =
     next (want_word marks) (λ (word : List Mark × List Mark).
     next (want_word word.1) (λ (second : List Mark × List Mark).
     ended second.1 (value.Pair (read_as word.0) (read_as second.0))))
 
-unfoldable pub read_id_or_pair : List Mark → Answer Content
+unfoldable pub read_id_or_pair : List Mark → Answer QualifiedValue
 read_id_or_pair marks =
     next (want_word marks) (λ (word : List Mark × List Mark).
     found (word_at word.1) (ended word.1 (value.Id (read_as word.0))) (λ (second : List Mark × List Mark).
@@ -66,12 +66,12 @@ truth_of word =
 abbrev pub want_truth : List ℕ → Answer Bool
 want_truth word = wanted syntax.BadBool (truth_of word)
 
-unfoldable pub read_bool : List Mark → Answer Content
+unfoldable pub read_bool : List Mark → Answer QualifiedValue
 read_bool marks =
     next (want_word marks) (λ (word : List Mark × List Mark).
     next (want_truth (read_as word.0)) (λ (truth : Bool). ended word.1 (value.Bool truth)))
 
-unfoldable pub read_definition : List Mark → Answer Content
+unfoldable pub read_definition : List Mark → Answer QualifiedValue
 read_definition marks =
     next (quoted_at marks) (λ (text : List Mark × List Mark).
     next (list_at text.1) (λ (list : List Xref × List Mark).
@@ -100,7 +100,7 @@ scoped_at marks =
     found (word_at marks) (scope.Related, None, marks) (λ (word : List Mark × List Mark).
     found (scope_of (read_as word.0)) (scope.Related, Some (read_as word.0), word.1) (λ (one : Scope). type_behind one word.1))
 
-unfoldable pub read_synonym : List Mark → Answer Content
+unfoldable pub read_synonym : List Mark → Answer QualifiedValue
 read_synonym marks =
     next (quoted_at marks) (λ (text : List Mark × List Mark).
     let scoped = scoped_at text.1 in
@@ -112,16 +112,16 @@ abbrev pub xref : List ℕ → Option (List ℕ) → Value
 xref id label = value.XrefValue (record { id = id; label = label })
 
 -- a label behind the run of an xref
-abbrev pub labelled : List ℕ → List Mark → Answer Content
+abbrev pub labelled : List ℕ → List Mark → Answer QualifiedValue
 labelled id marks =
     next (quoted_at marks) (λ (label : List Mark × List Mark). ended label.1 (xref id (Some (read_as label.0))))
 
-unfoldable pub read_xref : List Mark → Answer Content
+unfoldable pub read_xref : List Mark → Answer QualifiedValue
 read_xref marks =
     let run = free_run true (behind_blanks marks) in
     let id = read_as (trim_end is_space run.0) in
     if length run.0 == 0 then Err syntax.NoValue
-    else found (ending_at run.1) (labelled id run.1) (λ (qualifiers : List Qualifier). Ok (content (xref id None) qualifiers))
+    else found (ending_at run.1) (labelled id run.1) (λ (qualifiers : List Qualifier). Ok (qualified_value (xref id None) qualifiers))
 
 -- an optional word, and the rest
 abbrev pub may_have_word : List Mark → Option (List Mark) × List Mark
@@ -134,23 +134,23 @@ datatype_of None = text_datatype
 datatype_of (Some word) = read_as word
 
 -- a text of a datatype behind its property
-unfoldable pub read_literal : List ℕ → List Mark → Answer Content
+unfoldable pub read_literal : List ℕ → List Mark → Answer QualifiedValue
 read_literal relation marks =
     next (quoted_at marks) (λ (text : List Mark × List Mark).
     let more = may_have_word text.1 in
     ended more.1 (value.Literal relation (read_as text.0) (datatype_of more.0)))
 
 -- a word behind its property
-unfoldable pub read_link : List ℕ → List Mark → Answer Content
+unfoldable pub read_link : List ℕ → List Mark → Answer QualifiedValue
 read_link relation marks =
     next (want_word marks) (λ (target : List Mark × List Mark). ended target.1 (value.Link relation (read_as target.0)))
 
-unfoldable pub read_property : List Mark → Answer Content
+unfoldable pub read_property : List Mark → Answer QualifiedValue
 read_property marks =
     next (want_word marks) (λ (word : List Mark × List Mark).
     found (behind_sign 34 (behind_blanks word.1)) (read_link (read_as word.0) word.1) (λ (_ : List Mark). read_literal (read_as word.0) word.1))
 
-unfoldable pub read_subset : List Mark → Answer Content
+unfoldable pub read_subset : List Mark → Answer QualifiedValue
 read_subset marks =
     next (want_word marks) (λ (word : List Mark × List Mark).
     next (quoted_at word.1) (λ (text : List Mark × List Mark).
@@ -162,7 +162,7 @@ type_scope_at marks =
     found (word_at marks) (Ok (None, marks)) (λ (word : List Mark × List Mark).
     next (wanted syntax.Trailing (scope_of (read_as word.0))) (λ (one : Scope). Ok (Some one, word.1)))
 
-unfoldable pub read_synonym_type : List Mark → Answer Content
+unfoldable pub read_synonym_type : List Mark → Answer QualifiedValue
 read_synonym_type marks =
     next (want_word marks) (λ (word : List Mark × List Mark).
     next (quoted_at word.1) (λ (text : List Mark × List Mark).
@@ -170,11 +170,11 @@ read_synonym_type marks =
     ended one.1 (value.SynonymDef (read_as word.0) (read_as text.0) one.0))))
 
 -- the rest of a line as it stands
-abbrev pub read_raw : List ℕ → Answer Content
-read_raw bytes = Ok (content (value.Raw (trim is_blank bytes)) [])
+abbrev pub read_raw : List ℕ → Answer QualifiedValue
+read_raw bytes = Ok (qualified_value (value.Raw (trim is_blank bytes)) [])
 
 -- what stands behind the colon, by the shape of the value there
-abbrev pub read_shape : ValueShape → List ℕ → Answer Content
+abbrev pub read_shape : ValueShape → List ℕ → Answer QualifiedValue
 read_shape shapes.Text bytes = read_text (marks_of bytes)
 read_shape shapes.Id bytes = read_id (marks_of bytes)
 read_shape shapes.Pair bytes = read_pair (marks_of bytes)
@@ -191,7 +191,7 @@ read_shape shapes.Raw bytes = read_raw bytes
 -- the clause of a tag and what stands behind its colon
 unfoldable pub read_tagged : FrameKind → Bool → List ℕ → List ℕ → Answer Line
 read_tagged kind first tag bytes =
-    next (read_shape (shape_at kind first tag) bytes) (λ (read : Content).
+    next (read_shape (shape_at kind first tag) bytes) (λ (read : QualifiedValue).
     Ok (says.Content (record { tag = tag; value = read.value; qualifiers = read.qualifiers })))
 
 -- the bytes are a tag

@@ -105,9 +105,9 @@ pub data IsValue (behind : List Mark) : ValueShape → List Mark → Value → T
   synonym_type : (marks blanks texts more : List Mark) (id text : List ℕ) (one : Option Scope) → IsWord marks id → AreBlanks blanks → IsQuoted texts text → IsTypeScope more one → IsValue behind shapes.SynonymDef (marks ++ blanks ++ texts ++ more) (value.SynonymDef id text one)
 
 -- what stands behind the colon: of a foreign tag any text without outer blanks; else a value, blanks and an ending
-pub data IsContent : ValueShape → List ℕ → Value → List Qualifier → Type 0 where
-  raw : (before text behind : List ℕ) → AllPass is_blank before → IsTrimmed ℕ is_blank text → AllPass is_blank behind → IsContent shapes.Raw (before ++ text ++ behind) (value.Raw text) []
-  shaped : (shape : ValueShape) (bytes : List ℕ) (before marks between ending : List Mark) (one : Value) (qualifiers : List Qualifier) → marks_of bytes ≡ before ++ marks ++ between ++ ending → AreBlanks before → IsValue (between ++ ending) shape marks one → AreBlanks between → IsEnding ending qualifiers → IsContent shape bytes one qualifiers
+pub data IsQualifiedValue : ValueShape → List ℕ → Value → List Qualifier → Type 0 where
+  raw : (before text behind : List ℕ) → AllPass is_blank before → IsTrimmed ℕ is_blank text → AllPass is_blank behind → IsQualifiedValue shapes.Raw (before ++ text ++ behind) (value.Raw text) []
+  shaped : (shape : ValueShape) (bytes : List ℕ) (before marks between ending : List Mark) (one : Value) (qualifiers : List Qualifier) → marks_of bytes ≡ before ++ marks ++ between ++ ending → AreBlanks before → IsValue (between ++ ending) shape marks one → AreBlanks between → IsEnding ending qualifiers → IsQualifiedValue shape bytes one qualifiers
 
 -- blanks, a tag, blanks, a colon and these bytes
 pub record IsTagged (line tag rest : List ℕ) : Type 0 where
@@ -129,7 +129,7 @@ shape_at kind first tag =
 pub record Spells (kind : FrameKind) (first : Bool) (line : List ℕ) (clause : Clause) : Type 0 where
   pub rest : List ℕ
   pub tagged : IsTagged line clause.tag rest
-  pub content : IsContent (shape_at kind first clause.tag) rest clause.value clause.qualifiers
+  pub valued : IsQualifiedValue (shape_at kind first clause.tag) rest clause.value clause.qualifiers
 
 -- nothing, or a comment
 pub data IsLineComment : List ℕ → Type 0 where

@@ -1,5 +1,6 @@
 //! Clauses, and what they are made of (OBO Flat File Format 1.4, the tags of each frame).
 ghost use Rattle.std.specs.Prelude.{◌≡◌, IfOk};
+ghost use Rattle.obo_clause.specs.Foreign.{is_foreign};
 ghost use Rattle.obo_clause.specs.declared.clause.Value.TheVariants.{Def, Link, Literal, Pair, SubsetDef, Synonym, SynonymDef};
 
 use rel_io::{Bytes, Dup, Items, NoMemory};
@@ -114,13 +115,22 @@ pub struct Clause {
     pub qualifiers: Items<Qualifier>,
 }
 
-/// What stands behind the tag of a clause.
+/// A value and the qualifiers behind it: all that stands behind the tag of a clause.
 #[derive(PartialEq, Eq, Drop)]
-pub struct Content {
+pub struct QualifiedValue {
     /// The value, in the shape of the tag.
     pub value: Value,
     /// The trailing qualifiers, in the order of the line.
     pub qualifiers: Items<Qualifier>,
+}
+
+impl Clause {
+    /// Whether the clause is foreign: its tag is none that its frame has, or an `id` that is not the first clause there.
+    pub fn is_foreign(&self) -> bool
+        ensures { result ≡ is_foreign self.now }
+    {
+        matches!(self.value, Value::Raw(_))
+    }
 }
 
 impl Dup for Scope {

@@ -3,14 +3,19 @@
 //! from them; the crates above read lines and print clauses by them.
 #![tactic(auto)]
 
+mod bytes;
 mod clause;
+mod fit;
 mod laws;
 mod line;
 mod mark;
 
-pub use clause::{Clause, Content, Qualifier, Scope, Value, Xref};
+pub use bytes::{ends_key, is_blank, is_tag};
+pub use clause::{Clause, QualifiedValue, Qualifier, Scope, Value, Xref};
+pub use fit::{fits, shape_at};
 pub use laws::{
-    line_fails_one_way, line_has_answer, line_never_says_and_fails, line_says_one_thing,
+    foreign_clauses_are_raw, line_fails_one_way, line_has_answer, line_never_says_and_fails,
+    line_says_one_thing,
 };
 pub use line::{Line, LineFault, SyntaxKind};
 pub use mark::Mark;

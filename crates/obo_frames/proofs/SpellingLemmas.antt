@@ -16,7 +16,7 @@ use Rattle.obo_clause.specs.Grammar.{IsEnding, IsWord, bare as bare_ending, noth
 use Rattle.obo_clause.specs.declared.mark.Mark.{Mark}
 use Rattle.obo_clause.specs.Marks.{bare, escaped, marks_of}
 use Rattle.obo_clause.specs.Spelled.{IsLine, IsSpelledAs}
-use Rattle.obo_clause.specs.Spelling.{IsContent, IsKindName, IsValue, Says, Spells, blank, class, content, definition, frame, id, instance, link, literal, pair, raw, restriction, shape_at, shaped, subset, synonym, synonym_type, term, text, truth, typedef, xref}
+use Rattle.obo_clause.specs.Spelling.{IsQualifiedValue, IsKindName, IsValue, Says, Spells, blank, class, content, definition, frame, id, instance, link, literal, pair, raw, restriction, shape_at, shaped, subset, synonym, synonym_type, term, text, truth, typedef, xref}
 use Rattle.obo_clause.specs.Vocabulary.{block_open}
 use Rattle.obo_clause.specs.declared.clause.Clause.{Clause}
 use Rattle.obo_clause.specs.declared.clause.Qualifier.{Qualifier}
@@ -84,7 +84,7 @@ not_raw behind shape marks one (subset a b c d e f g h) is = cc
 not_raw behind shape marks one (synonym_type a b c d e f g h i j k) is = cc
 
 -- what a foreign tag has is no word
-raw_no_word : (shape : ValueShape) (rest : List ℕ) (one : Value) (qualifiers : List Qualifier) → IsContent shape rest one qualifiers → shape ≡ shapes.Raw → (word : List ℕ) → one ≡ value.Id word → ⊥
+raw_no_word : (shape : ValueShape) (rest : List ℕ) (one : Value) (qualifiers : List Qualifier) → IsQualifiedValue shape rest one qualifiers → shape ≡ shapes.Raw → (word : List ℕ) → one ≡ value.Id word → ⊥
 raw_no_word shape rest one qualifiers (raw before words behind a b c) foreign word is = absurd (cc)
 raw_no_word shape rest one qualifiers (shaped other bytes before marks between ending it more a b is_value c d) foreign word is =
     not_raw (between ++ ending) other marks it is_value foreign
@@ -94,7 +94,7 @@ word_some : (marks : List Mark) (word : List ℕ) → IsWord marks word → word
 word_some marks word is_word none =
     absurd (omega (arith, is_word.some, length-map marks (λ mark. mark.byte), ap length (is_word.read ∙ none)))
 
-content_some : (shape : ValueShape) (rest : List ℕ) (one : Value) (qualifiers : List Qualifier) → IsContent shape rest one qualifiers → (word : List ℕ) → one ≡ value.Id word → word ≡ [] → ⊥
+content_some : (shape : ValueShape) (rest : List ℕ) (one : Value) (qualifiers : List Qualifier) → IsQualifiedValue shape rest one qualifiers → (word : List ℕ) → one ≡ value.Id word → word ≡ [] → ⊥
 content_some shape rest one qualifiers (raw before words behind a b c) word is none = absurd (cc)
 content_some shape rest one qualifiers (shaped other bytes before marks between ending it more a b is_value c d) word is none =
     word_some marks word (one_word (between ++ ending) other marks it is_value word is).is_word none
@@ -102,7 +102,7 @@ content_some shape rest one qualifiers (shaped other bytes before marks between 
 -- a clause that is one word has a byte there
 pub spells_some : (kind : FrameKind) (first : Bool) (line : List ℕ) (clause : Clause) → Spells kind first line clause → (word : List ℕ) → clause.value ≡ value.Id word → word ≡ [] → ⊥
 spells_some kind first line clause spells word is =
-    content_some (shape_at kind first clause.tag) spells.rest clause.value clause.qualifiers spells.content word is
+    content_some (shape_at kind first clause.tag) spells.rest clause.value clause.qualifiers spells.valued word is
 
 -- ---- foreign `id` clauses
 
@@ -117,7 +117,7 @@ later_id kind = refl
 
 pub foreign_id : (kind : FrameKind) (first : Bool) (line : List ℕ) (clause : Clause) → Spells kind first line clause → shape_at kind first (codes "id") ≡ shapes.Raw → clause.tag ≡ codes "id" → (word : List ℕ) → clause.value ≡ value.Id word → ⊥
 foreign_id kind first line clause spells foreign tag word is =
-    raw_no_word (shape_at kind first clause.tag) spells.rest clause.value clause.qualifiers spells.content (ap (shape_at kind first) tag ∙ foreign) word is
+    raw_no_word (shape_at kind first clause.tag) spells.rest clause.value clause.qualifiers spells.valued (ap (shape_at kind first) tag ∙ foreign) word is
 
 -- ---- a clause without its qualifiers
 
@@ -195,7 +195,7 @@ record HasBareFront (shape : ValueShape) (rest : List ℕ) (one : Value) : Type 
   front : List ℕ
   behind : List ℕ
   whole : rest ≡ front ++ behind
-  content : IsContent shape front one []
+  valued : IsQualifiedValue shape front one []
   cut_off : IsCutOff behind
 
 -- an ending with qualifiers begins with a `{`
@@ -208,7 +208,7 @@ how_it_ends ending qualifiers (bare_ending comment is) = inl refl
 how_it_ends ending qualifiers (qualified block blanks comment others is_block a b) =
     inr (record { tail = _; whole = ap (λ marks. (marks ++ blanks) ++ comment) is_block.whole })
 
-bare_front : (shape : ValueShape) (rest : List ℕ) (one : Value) (qualifiers : List Qualifier) → IsContent shape rest one qualifiers → (word : List ℕ) → one ≡ value.Id word → HasBareFront shape rest one
+bare_front : (shape : ValueShape) (rest : List ℕ) (one : Value) (qualifiers : List Qualifier) → IsQualifiedValue shape rest one qualifiers → (word : List ℕ) → one ≡ value.Id word → HasBareFront shape rest one
 bare_front shape rest one qualifiers (raw before words behind a b c) word is = absurd (cc)
 bare_front shape rest one qualifiers (shaped other bytes before marks between ending it more whole a is_value b is_ending) word is =
     ⊎_elim
@@ -216,7 +216,7 @@ bare_front shape rest one qualifiers (shaped other bytes before marks between en
       front = bytes;
       behind = [];
       whole = sym (append-nil bytes);
-      content = subst (IsContent other bytes it) none (shaped other bytes before marks between ending it more whole a is_value b is_ending);
+      valued = subst (IsQualifiedValue other bytes it) none (shaped other bytes before marks between ending it more whole a is_value b is_ending);
       cut_off = inl refl;
     })
     (λ block.
@@ -225,7 +225,7 @@ bare_front shape rest one qualifiers (shaped other bytes before marks between en
       front = cut.before;
       behind = 123 ∷ cut.behind;
       whole = cut.whole;
-      content = shaped other cut.before before marks between [] it [] (cut.marks ∙ sym (append-nil ((before ++ marks) ++ between))) a ((one_word (between ++ ending) other marks it is_value word is).anywhere (between ++ [])) b (bare_ending [] no_comment);
+      valued = shaped other cut.before before marks between [] it [] (cut.marks ∙ sym (append-nil ((before ++ marks) ++ between))) a ((one_word (between ++ ending) other marks it is_value word is).anywhere (between ++ [])) b (bare_ending [] no_comment);
       cut_off = inr (cut.behind, refl);
     })
     (how_it_ends ending more is_ending)
@@ -251,7 +251,7 @@ front_line front behind (inr cut) is =
 pub spells_bare : (kind : FrameKind) (first : Bool) (line : List ℕ) (clause : Clause) → IsLine line → Spells kind first line clause → (word : List ℕ) → clause.value ≡ value.Id word → IsSpelledAs kind first (record clause { qualifiers = [] })
 spells_bare kind first line clause is_line spells word is =
     let tagged = spells.tagged in
-    let bare_one = bare_front (shape_at kind first clause.tag) spells.rest clause.value clause.qualifiers spells.content word is in
+    let bare_one = bare_front (shape_at kind first clause.tag) spells.rest clause.value clause.qualifiers spells.valued word is in
     let start : List ℕ = (tagged.before ++ clause.tag) ++ tagged.between in
     let whole : line ≡ (start ++ 58 ∷ bare_one.front) ++ bare_one.behind =
     tagged.whole ∙ ap (λ rest. start ++ 58 ∷ rest) bare_one.whole ∙ sym (append_assoc start (58 ∷ bare_one.front) bare_one.behind) in
@@ -269,6 +269,6 @@ spells_bare kind first line clause is_line spells word is =
           each = tagged.each;
           blank_between = tagged.blank_between;
         };
-        content = bare_one.content;
+        valued = bare_one.valued;
       };
     }

@@ -4,3 +4,4 @@ pub mod FeedingLemmas
 pub mod LawLemmas
 pub mod TokenLemmas
 pub mod TextLemmas
+pub mod WrittenLines

@@ -1,10 +1,11 @@
 -- What the definitions of lines and of feeders amount to. (Own.)
-use Rattle.std.specs.Prelude.{◌≡◌, ℕ, List, [], ◌∷◌, ◌++◌}
-use Rattle.std.specs.List.{All}
+use Rattle.std.specs.Prelude.{◌≡◌, ℕ, ◌+◌, false, nat_eq, List, [], ◌∷◌, ◌++◌}
+use Rattle.std.specs.List.{All, starts_with}
+use Rattle.obo_lexer.specs.declared.line.LineBody.TheVariants.{Text}
 use Rattle.obo_lexer.specs.declared.line.LineItem.{LineItem}
 use Rattle.obo_lexer.specs.Feeding.{Feeder, after_end, after_piece, fresh, with_first}
-use Rattle.obo_lexer.specs.Items.{lines_of, numbered}
-use Rattle.obo_lexer.specs.Lines.{HasNoLineFeed, ended_lines, rest_of, without_mark, written}
+use Rattle.obo_lexer.specs.Items.{IsLineText, lines_of, numbered}
+use Rattle.obo_lexer.specs.Lines.{HasNoLineFeed, byte_order_mark, ended_lines, rest_of, without_mark, written}
 
 -- the ended lines and the rest, written one after the other, are the bytes, and none of them has an LF
 pub record LinesAreWritten (bytes : List ℕ) : Type 0 where
@@ -36,3 +37,13 @@ pub record RunGivesLines (limit : ℕ) (bytes : List ℕ) (taken : List LineItem
 abbrev pub RunsGiveLines : Type 0
 RunsGiveLines =
     (limit : ℕ) (bytes : List ℕ) (taken : List LineItem) (f : Feeder) → Run limit bytes taken f → RunGivesLines limit bytes taken f
+
+-- the lines as items, each with itself as its text
+abbrev pub as_texts : ℕ → List (List ℕ) → List LineItem
+as_texts number [] = []
+as_texts number (line ∷ lines) = record { number = number; body = Text line } ∷ as_texts (number + 1) lines
+
+-- lines that are texts, written with their ends, are read as themselves, where no byte order mark begins them
+abbrev pub WrittenLinesAreRead : Type 0
+WrittenLinesAreRead =
+    (limit : ℕ) (lines : List (List ℕ)) → All (IsLineText limit) lines → starts_with nat_eq (written lines []) byte_order_mark ≡ false → lines_of limit (written lines []) ≡ as_texts 1 lines

@@ -1,5 +1,5 @@
 //! What the definitions of this crate amount to, proved once for all layers above.
-ghost use Rattle.obo_lexer.specs.Laws.{LinesAreOnly, LinesAreWritten, PiecesJoin, RunsGiveLines};
+ghost use Rattle.obo_lexer.specs.Laws.{WrittenLinesAreRead, LinesAreOnly, LinesAreWritten, PiecesJoin, RunsGiveLines};
 ghost use Rattle.obo_lexer.specs.Tokens.{CoverIsUnique};
 
 use rel_io::Bytes;
@@ -19,4 +19,9 @@ pub fn cutting_does_not_matter()
 /// A line is cut into tokens in one way only.
 pub fn tokens_are_unique(line: &Bytes)
     ensures { CoverIsUnique line.now }
+{}
+
+/// Lines without CR and LF, written with their ends, are read as themselves.
+pub fn written_lines_are_read()
+    ensures { WrittenLinesAreRead }
 {}

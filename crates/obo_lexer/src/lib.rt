@@ -9,6 +9,8 @@ mod line;
 mod token;
 
 pub use feeder::LineFeeder;
-pub use laws::{cutting_does_not_matter, lines_are_the_parts, tokens_are_unique};
+pub use laws::{
+    cutting_does_not_matter, lines_are_the_parts, tokens_are_unique, written_lines_are_read,
+};
 pub use line::{LineBody, LineItem};
 pub use token::{Token, TokenKind, tokens};

@@ -24,7 +24,8 @@ use Rattle.obo_notes.proofs.XrefLists.{Splits-xrefs}
 use Rattle.text_sets.specs.Parts.{Splits, take_all, take_one}
 use Rattle.text_sets.proofs.PartLemmas.{Splits-again, Splits-nothing, first_some-found, option_and_then_some, option_map_some, option_or_some, take_one-splits}
 use Rattle.obo_notes.specs.Context.{Agree, Reading, Writing, datatype_by, datatype_iri, datatype_word, is_text, other_name, url_name, where_true, xsd_name, xsd_prefix}
-use Rattle.obo_notes.specs.Forms.{Form, Note, Spelled, as_definition, as_link, as_property, as_subset, as_synonym, as_synonym_type, as_text, as_truth, as_value_of, as_word, as_xref, described, first_part, is_true_value, is_truth, literal, note_of, said, scope_of_property, scope_with, spelled, spelled_as, synonym_parts, synonym_property, synonym_type_parts}
+use Rattle.obo_notes.specs.Forms.{Form, Spelled, as_definition, as_link, as_property, as_subset, as_synonym, as_synonym_type, as_text, as_truth, as_value_of, as_word, as_xref, described, first_part, is_true_value, is_truth, literal, note_of, said, scope_of_property, scope_with, spelled, spelled_as, synonym_parts, synonym_property, synonym_type_parts}
+use Rattle.obo_notes.specs.declared.note.Note.{Note}
 use Rattle.obo_notes.specs.Keys.{text_of_value, text_side}
 use Rattle.obo_notes.specs.Parts.{id_of_value, is_word, scope_of, side_of_scope, side_of_type, side_of_xref, text_of, type_of, xref_of}
 use Rattle.obo_notes.specs.Vocabulary.{has_dbxref, iao_definition, own_property, rdfs_comment, xsd, xsd_boolean, xsd_string}

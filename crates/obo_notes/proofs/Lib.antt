@@ -3,6 +3,7 @@ pub mod FormBacks
 pub mod Guards
 pub mod KeyCovers
 pub mod KeyLemmas
+pub mod LoopLemmas
 pub mod NoteCovers
 pub mod NoteFits
 pub mod NoteHasClause
@@ -11,4 +12,5 @@ pub mod PartBacks
 pub mod PartCovers
 pub mod ProperSides
 pub mod SideTexts
+pub mod SortLemmas
 pub mod XrefLists

@@ -36,7 +36,8 @@ use Rattle.text_sets.specs.Sorted.{by_text, sorted_by}
 use Rattle.text_sets.proofs.PartLemmas.{each_some-some, first_some-some}
 use Rattle.text_sets.proofs.SortedLemmas.{text_not_below_itself, Rises-sorted_by, sorted_by-each, sorted_by-only}
 use Rattle.obo_notes.specs.Context.{Agree, Reading, Writing, datatype_by, datatype_iri, datatype_word, is_text, other_name, url_name, where_true, xsd_name, xsd_prefix}
-use Rattle.obo_notes.specs.Forms.{Form, Note, Spelled, as_value_of, described, first_part, is_true_value, literal, note_of, said, scope_of_property, scope_with, spelled, spelled_as, synonym_parts, synonym_property, synonym_type_parts}
+use Rattle.obo_notes.specs.Forms.{Form, Spelled, as_value_of, described, first_part, is_true_value, literal, note_of, said, scope_of_property, scope_with, spelled, spelled_as, synonym_parts, synonym_property, synonym_type_parts}
+use Rattle.obo_notes.specs.declared.note.Note.{Note}
 use Rattle.obo_notes.specs.Keys.{is_key, is_reserved_key, key_of, key_property, plain_text, qualifier_of, side_of_qualifier, text_side}
 use Rattle.obo_notes.specs.Notes.{clause_with, qualifiers_of, sorted_sides, with_qualifiers}
 use Rattle.obo_notes.specs.Parts.{id_of_value, is_word, scope_of, side_of_scope, side_of_type, side_of_xref, text_of, type_of, xref_of}

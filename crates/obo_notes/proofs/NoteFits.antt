@@ -42,7 +42,8 @@ use Rattle.text_sets.specs.Sorted.{sorted_by}
 use Rattle.text_sets.proofs.PartLemmas.{first_some-found, option_and_then_some, option_map_some, option_or_some}
 use Rattle.text_sets.proofs.SortedLemmas.{sorted_by-only}
 use Rattle.obo_notes.specs.Context.{Agree, Reading, Writing, datatype_word, is_text, other_name, url_name, where_true, xsd_name, xsd_prefix}
-use Rattle.obo_notes.specs.Forms.{Form, Note, Spelled, as_definition, as_link, as_property, as_subset, as_synonym, as_synonym_type, as_text, as_truth, as_value_of, as_word, as_xref, described, first_part, is_truth, scope_of_property, spelled, spelled_as, synonym_parts, synonym_type_parts}
+use Rattle.obo_notes.specs.Forms.{Form, Spelled, as_definition, as_link, as_property, as_subset, as_synonym, as_synonym_type, as_text, as_truth, as_value_of, as_word, as_xref, described, first_part, is_truth, scope_of_property, spelled, spelled_as, synonym_parts, synonym_type_parts}
+use Rattle.obo_notes.specs.declared.note.Note.{Note}
 use Rattle.obo_notes.specs.Keys.{plain_text, qualifier_of, text_of_value}
 use Rattle.obo_notes.specs.Notes.{Row, clause_by, clause_with, form_in, form_of, qualifiers_of, rows, spelling, tags_tried}
 use Rattle.obo_notes.specs.Parts.{id_of_value, is_word, text_of, type_of, xref_of}

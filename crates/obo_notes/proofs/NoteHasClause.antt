@@ -21,7 +21,8 @@ use Rattle.text_sets.specs.Sets.{In}
 use Rattle.clause_printer.specs.Laws.{FitBehind, FitsQualifier, FitsShape}
 use Rattle.text_sets.proofs.PartLemmas.{first_some-some, option_and_then_some, option_map_some}
 use Rattle.obo_notes.specs.Context.{Agree, Reading, Writing}
-use Rattle.obo_notes.specs.Forms.{Form, Note, said, spelled_as}
+use Rattle.obo_notes.specs.Forms.{Form, said, spelled_as}
+use Rattle.obo_notes.specs.declared.note.Note.{Note}
 use Rattle.obo_notes.specs.Laws.{NoteHasClause}
 use Rattle.obo_notes.specs.Notes.{clause_by, clause_with, form_of, meaning, spelling, tags_tried, with_qualifiers}
 use Rattle.obo_notes.proofs.Guards.{same_bytes}

@@ -27,7 +27,8 @@ use Rattle.text_sets.specs.Sorted.{Rises, sorted_by}
 use Rattle.text_sets.proofs.PartLemmas.{each_some-back, first_some-found, option_and_then_some, option_map_some}
 use Rattle.text_sets.proofs.SortedLemmas.{sorted_by-each, sorted_by-is, sorted_by-only}
 use Rattle.obo_notes.specs.Context.{Agree, Reading, Writing}
-use Rattle.obo_notes.specs.Forms.{Note, note_of, said, spelled_as}
+use Rattle.obo_notes.specs.Forms.{note_of, said, spelled_as}
+use Rattle.obo_notes.specs.declared.note.Note.{Note}
 use Rattle.obo_notes.specs.Keys.{qualifier_of, side_of_qualifier}
 use Rattle.obo_notes.specs.Laws.{NoteReadsBack}
 use Rattle.obo_notes.specs.Notes.{clause_by, clause_with, form_of, meaning, qualifiers_of, sorted_sides, spelling, tags_tried, with_qualifiers}

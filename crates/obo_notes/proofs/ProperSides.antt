@@ -20,7 +20,8 @@ use Rattle.owl_axioms.specs.Proper.{is_proper_side, is_proper_value}
 use Rattle.owl_axioms.specs.Text.{rdfs_label, side_text}
 use Rattle.owl_axioms.specs.declared.annotation.Side.{Side}
 use Rattle.obo_notes.specs.Context.{Agree, Reading, Writing}
-use Rattle.obo_notes.specs.Forms.{Form, Note, said}
+use Rattle.obo_notes.specs.Forms.{Form, said}
+use Rattle.obo_notes.specs.declared.note.Note.{Note}
 use Rattle.obo_notes.specs.Keys.{key_property, side_of_qualifier, text_side}
 use Rattle.obo_notes.specs.Parts.{side_of_scope, side_of_type, side_of_xref}
 use Rattle.obo_notes.specs.Vocabulary.{has_dbxref, has_scope, has_synonym_type, obo_in_owl, rdfs_comment}

@@ -9,6 +9,7 @@ use Rattle.owl_axioms.specs.Text.{iri_text, label_texts, phrase, quoted, rdfs_la
 use Rattle.owl_axioms.specs.declared.annotation.NoteValue.{NoteValue}
 use Rattle.owl_axioms.specs.declared.annotation.NoteValue.TheVariants as note
 use Rattle.owl_axioms.specs.declared.annotation.Side.{Side}
+use Rattle.obo_notes.specs.inner.Texts as parts
 
 head_of : List ℕ → ℕ
 head_of [] = 0
@@ -219,3 +220,15 @@ text_tells_side one other proper also same =
         let h = first_of_plain side in
         let k : head_of (behind_label side ++ codes ")") ≡ 65 = ap head_of same ∙ first_of_labelled rest in
         absurd (omega (arith, h, k))
+
+-- the text of an annotation, part by part
+pub side_text_parts : (side : Side) → side_text side ≡ codes "Annotation(" ++ (parts.label_front side.label ++ (behind_label side ++ codes ")"))
+side_text_parts side =
+    ⊎_elim
+    (λ none. plain_side side none ∙ ap (λ l. codes "Annotation(" ++ (parts.label_front l ++ (behind_label side ++ codes ")"))) (sym none))
+    (λ some.
+    let q = quoted some.0 in
+    let tail = behind_label side ++ codes ")" in
+    let joined : label_front ++ (q ++ (codes ") " ++ tail)) ≡ (label_front ++ (q ++ codes ") ")) ++ tail = simp append_assoc in
+    labelled_side side some.0 some.1 ∙ ap (λ x. codes "Annotation(" ++ x) joined ∙ ap (λ l. codes "Annotation(" ++ (parts.label_front l ++ tail)) (sym some.1))
+    (label_cases side.label)

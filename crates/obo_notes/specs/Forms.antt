@@ -17,6 +17,7 @@ use Rattle.clause_printer.specs.Printing.{xref_text}
 use Rattle.obo_notes.specs.Context.{Reading, Writing, datatype_iri, datatype_word, is_text, where_true}
 use Rattle.obo_notes.specs.Keys.{text_of_value, text_side}
 use Rattle.obo_notes.specs.Parts.{id_of_value, is_word, scope_of, side_of_scope, side_of_type, side_of_xref, text_of, type_of, xref_of}
+use Rattle.obo_notes.specs.declared.note.Note.{Note}
 use Rattle.obo_notes.specs.Vocabulary.{has_dbxref, iao_definition, own_property, rdfs_comment, xsd_boolean, xsd_string}
 
 -- the forms
@@ -36,12 +37,7 @@ pub data Form : Type 0 where
   SubsetForm : Form
   TypeForm : Form
 
--- what is said: a property, a value, and the annotations in their order, or those that a value has as parts
-pub record Note : Type 0 where
-  pub property : List ℕ
-  pub value : NoteValue
-  pub sides : List Side
-
+-- a note by its property, its value and its annotations
 abbrev pub note_of : List ℕ → NoteValue → List Side → Note
 note_of property value sides = record { property = property; value = value; sides = sides }
 

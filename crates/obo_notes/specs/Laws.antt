@@ -10,7 +10,7 @@ use Rattle.obo_notes.specs.Context.{Reading, Writing, reading_in, writing_in}
 use Rattle.obo_clause.specs.declared.clause.Qualifier.{Qualifier}
 use Rattle.clause_printer.specs.Laws.{Fits}
 use Rattle.obo_notes.specs.Keys.{is_reserved_key}
-use Rattle.obo_notes.specs.Forms.{Note}
+use Rattle.obo_notes.specs.declared.note.Note.{Note}
 use Rattle.obo_notes.specs.Notes.{meaning, spelling}
 
 -- the clause of a note says the note

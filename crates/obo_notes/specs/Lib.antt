@@ -5,3 +5,4 @@ pub mod Laws
 pub mod Notes
 pub mod Parts
 pub mod Vocabulary
+pub mod inner

@@ -12,7 +12,8 @@ use Rattle.owl_axioms.specs.declared.annotation.Side.{Side}
 use Rattle.text_sets.specs.Parts.{each_some, first_some}
 use Rattle.text_sets.specs.Sorted.{sorted_by}
 use Rattle.obo_notes.specs.Context.{Reading, Writing}
-use Rattle.obo_notes.specs.Forms.{Form, Note, Spelled, note_of, said, spelled_as}
+use Rattle.obo_notes.specs.Forms.{Form, Spelled, note_of, said, spelled_as}
+use Rattle.obo_notes.specs.declared.note.Note.{Note}
 use Rattle.obo_notes.specs.Keys.{qualifier_of, side_of_qualifier}
 use Rattle.obo_notes.specs.Vocabulary.{iao_replaced_by, own_property, owl_deprecated, rdfs_comment}
 
@@ -28,25 +29,36 @@ row tag form = record { tag = tag; form = form }
 abbrev pub own_row : (List ℕ → Form) → List ℕ → Row
 own_row form tag = row tag (form (own_property tag))
 
--- the tags of notes
+-- the tags of notes, in an order that agrees with the printed one in each frame kind, but `property_value` at the end
 unfoldable pub rows : List Row
 rows =
-    row (codes "name") (Form.TextForm rdfs_label) ∷ row (codes "comment") (Form.TextForm rdfs_comment) ∷
-    row (codes "namespace") (Form.TextForm (own_property (codes "hasOBONamespace"))) ∷
-    own_row Form.TextForm (codes "created_by") ∷ own_row Form.TextForm (codes "creation_date") ∷
-    own_row Form.TextForm (codes "data-version") ∷ own_row Form.TextForm (codes "date") ∷
-    own_row Form.TextForm (codes "saved-by") ∷ own_row Form.TextForm (codes "auto-generated-by") ∷
-    own_row Form.TextForm (codes "default-namespace") ∷ own_row Form.TextForm (codes "idspace") ∷
+    own_row Form.TextForm (codes "data-version") ∷
+    own_row Form.TextForm (codes "date") ∷
+    own_row Form.TextForm (codes "saved-by") ∷
+    own_row Form.TextForm (codes "auto-generated-by") ∷
+    row (codes "subsetdef") Form.SubsetForm ∷
+    row (codes "synonymtypedef") Form.TypeForm ∷
+    own_row Form.TextForm (codes "default-namespace") ∷
+    own_row Form.TextForm (codes "idspace") ∷
     own_row Form.TextForm (codes "remark") ∷
+    own_row Form.TruthForm (codes "is_anonymous") ∷
+    row (codes "name") (Form.TextForm rdfs_label) ∷
+    row (codes "namespace") (Form.TextForm (own_property (codes "hasOBONamespace"))) ∷
     row (codes "alt_id") (Form.WordForm (own_property (codes "hasAlternativeId"))) ∷
+    row (codes "def") Form.DefinitionForm ∷
+    row (codes "comment") (Form.TextForm rdfs_comment) ∷
     row (codes "subset") (Form.LinkForm (own_property (codes "inSubset"))) ∷
-    own_row Form.LinkForm (codes "consider") ∷ row (codes "replaced_by") (Form.LinkForm iao_replaced_by) ∷
-    row (codes "is_obsolete") (Form.TruthForm owl_deprecated) ∷
-    own_row Form.TruthForm (codes "is_anonymous") ∷ own_row Form.TruthForm (codes "builtin") ∷
-    own_row Form.TruthForm (codes "is_anti_symmetric") ∷ own_row Form.TruthForm (codes "is_cyclic") ∷
+    row (codes "synonym") Form.SynonymForm ∷
+    row (codes "xref") Form.XrefForm ∷
+    own_row Form.TruthForm (codes "builtin") ∷
+    own_row Form.TruthForm (codes "is_anti_symmetric") ∷
+    own_row Form.TruthForm (codes "is_cyclic") ∷
     own_row Form.TruthForm (codes "is_class_level") ∷
-    row (codes "def") Form.DefinitionForm ∷ row (codes "synonym") Form.SynonymForm ∷ row (codes "xref") Form.XrefForm ∷
-    row (codes "subsetdef") Form.SubsetForm ∷ row (codes "synonymtypedef") Form.TypeForm ∷
+    own_row Form.TextForm (codes "created_by") ∷
+    own_row Form.TextForm (codes "creation_date") ∷
+    row (codes "is_obsolete") (Form.TruthForm owl_deprecated) ∷
+    row (codes "replaced_by") (Form.LinkForm iao_replaced_by) ∷
+    own_row Form.LinkForm (codes "consider") ∷
     row (codes "property_value") Form.ValueForm ∷ []
 
 -- the form of the row, if it is of the tag

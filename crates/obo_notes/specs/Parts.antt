@@ -28,11 +28,15 @@ is_label (Some label) = is_text label
 abbrev pub is_word : List ℕ → Bool
 is_word word = not (length word == 0) && is_text word
 
+-- an entry with a label, where a word can be its id
+abbrev pub xref_with : Option (List ℕ) → List ℕ → Option Xref
+xref_with label id = where_true (is_word id) (Some (record { id = id; label = label }))
+
 -- an annotation as an entry of an xref list
 unfoldable pub xref_of : Side → Option Xref
 xref_of side =
     where_true (bytes_eq side.property has_dbxref && is_label side.label)
-    (option_and_then (λ id. where_true (is_word id) (Some (record { id = id; label = side.label }))) (text_of_value side.value))
+    (option_and_then (xref_with side.label) (text_of_value side.value))
 
 -- an annotation as a text of this property
 unfoldable pub text_of : List ℕ → Side → Option (List ℕ)

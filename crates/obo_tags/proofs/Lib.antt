@@ -1,1 +1,2 @@
+pub mod ForeignLemmas
 pub mod TableLemmas

@@ -102,7 +102,7 @@ found-at rows are i name within h =
     (sym (ap is_known is) ∙ all-at is_known row_tags known-told i listed, is)
 
 -- what holds of all tags of a list holds of a name that is among them
-among-has : (p : List ℕ → Bool) (tags : List (List ℕ)) (name : List ℕ) → list_all p tags ≡ true → is_among tags name ≡ true → p name ≡ true
+pub among-has : (p : List ℕ → Bool) (tags : List (List ℕ)) (name : List ℕ) → list_all p tags ≡ true → is_among tags name ≡ true → p name ≡ true
 among-has p [] name all h = cc
 among-has p (tag ∷ tags) name all h =
     ⊎_elim (λ e. sym (ap p (bytes_same tag name e)) ∙ (and_true (p tag) _ all).0) (λ later. among-has p tags name (and_true (p tag) _ all).1 later) (or_cases (bytes_eq tag name) (is_among tags name) h)

@@ -3,6 +3,7 @@
 use Rattle.std.specs.Prelude.{ℕ, Bool, ◌||◌, List, [], ◌∷◌, ◌++◌, None, Option, Some, codes, is_some, nat_eq, position, if◌then◌else◌}
 use Rattle.std.specs.List.{list_any, starts_with}
 use Rattle.std.specs.Str.{bytes_eq}
+use Rattle.obo_tags.specs.Tags as tags
 use Rattle.obo_tags.specs.declared.kind.FrameKind.{FrameKind}
 use Rattle.obo_tags.specs.declared.kind.FrameKind.TheVariants.{Header, Instance, Term, Typedef}
 use Rattle.obo_tags.specs.declared.kind.ValueShape.{ValueShape}
@@ -11,32 +12,32 @@ use Rattle.obo_tags.specs.declared.kind.ValueShape.TheVariants as shapes
 -- the tags of each frame kind, in printed order
 unfoldable pub tags_of : FrameKind → List (List ℕ)
 tags_of Header =
-    codes "format-version" ∷ codes "data-version" ∷ codes "date" ∷ codes "saved-by" ∷
-    codes "auto-generated-by" ∷ codes "import" ∷ codes "subsetdef" ∷ codes "synonymtypedef" ∷
-    codes "default-namespace" ∷ codes "idspace" ∷ codes "remark" ∷ codes "ontology" ∷
-    codes "property_value" ∷ []
+    tags.format_version ∷ tags.data_version ∷ tags.date ∷ tags.saved_by ∷
+    tags.auto_generated_by ∷ tags.import ∷ tags.subsetdef ∷ tags.synonymtypedef ∷
+    tags.default_namespace ∷ tags.idspace ∷ tags.remark ∷ tags.ontology ∷
+    tags.property_value ∷ []
 tags_of Term =
-    codes "id" ∷ codes "is_anonymous" ∷ codes "name" ∷ codes "namespace" ∷ codes "alt_id" ∷
-    codes "def" ∷ codes "comment" ∷ codes "subset" ∷ codes "synonym" ∷ codes "xref" ∷
-    codes "builtin" ∷ codes "property_value" ∷ codes "is_a" ∷ codes "intersection_of" ∷
-    codes "union_of" ∷ codes "equivalent_to" ∷ codes "disjoint_from" ∷ codes "relationship" ∷
-    codes "created_by" ∷ codes "creation_date" ∷ codes "is_obsolete" ∷ codes "replaced_by" ∷
-    codes "consider" ∷ []
+    tags.id ∷ tags.is_anonymous ∷ tags.name ∷ tags.namespace ∷ tags.alt_id ∷
+    tags.def ∷ tags.comment ∷ tags.subset ∷ tags.synonym ∷ tags.xref ∷
+    tags.builtin ∷ tags.property_value ∷ tags.is_a ∷ tags.intersection_of ∷
+    tags.union_of ∷ tags.equivalent_to ∷ tags.disjoint_from ∷ tags.relationship ∷
+    tags.created_by ∷ tags.creation_date ∷ tags.is_obsolete ∷ tags.replaced_by ∷
+    tags.consider ∷ []
 tags_of Typedef =
-    codes "id" ∷ codes "is_anonymous" ∷ codes "name" ∷ codes "namespace" ∷ codes "alt_id" ∷
-    codes "def" ∷ codes "comment" ∷ codes "subset" ∷ codes "synonym" ∷ codes "xref" ∷
-    codes "builtin" ∷ codes "property_value" ∷ codes "domain" ∷ codes "range" ∷
-    codes "is_anti_symmetric" ∷ codes "is_cyclic" ∷ codes "is_reflexive" ∷ codes "is_symmetric" ∷
-    codes "is_asymmetric" ∷ codes "is_transitive" ∷ codes "is_functional" ∷
-    codes "is_inverse_functional" ∷ codes "is_a" ∷ codes "holds_over_chain" ∷
-    codes "transitive_over" ∷ codes "equivalent_to" ∷ codes "disjoint_from" ∷ codes "inverse_of" ∷
-    codes "is_metadata_tag" ∷ codes "is_class_level" ∷ codes "created_by" ∷ codes "creation_date" ∷
-    codes "is_obsolete" ∷ codes "replaced_by" ∷ codes "consider" ∷ []
+    tags.id ∷ tags.is_anonymous ∷ tags.name ∷ tags.namespace ∷ tags.alt_id ∷
+    tags.def ∷ tags.comment ∷ tags.subset ∷ tags.synonym ∷ tags.xref ∷
+    tags.builtin ∷ tags.property_value ∷ tags.domain ∷ tags.range ∷
+    tags.is_anti_symmetric ∷ tags.is_cyclic ∷ tags.is_reflexive ∷ tags.is_symmetric ∷
+    tags.is_asymmetric ∷ tags.is_transitive ∷ tags.is_functional ∷
+    tags.is_inverse_functional ∷ tags.is_a ∷ tags.holds_over_chain ∷
+    tags.transitive_over ∷ tags.equivalent_to ∷ tags.disjoint_from ∷ tags.inverse_of ∷
+    tags.is_metadata_tag ∷ tags.is_class_level ∷ tags.created_by ∷ tags.creation_date ∷
+    tags.is_obsolete ∷ tags.replaced_by ∷ tags.consider ∷ []
 tags_of Instance =
-    codes "id" ∷ codes "is_anonymous" ∷ codes "name" ∷ codes "namespace" ∷ codes "alt_id" ∷
-    codes "def" ∷ codes "comment" ∷ codes "subset" ∷ codes "synonym" ∷ codes "xref" ∷
-    codes "property_value" ∷ codes "instance_of" ∷ codes "relationship" ∷ codes "created_by" ∷
-    codes "creation_date" ∷ codes "is_obsolete" ∷ codes "replaced_by" ∷ codes "consider" ∷ []
+    tags.id ∷ tags.is_anonymous ∷ tags.name ∷ tags.namespace ∷ tags.alt_id ∷
+    tags.def ∷ tags.comment ∷ tags.subset ∷ tags.synonym ∷ tags.xref ∷
+    tags.property_value ∷ tags.instance_of ∷ tags.relationship ∷ tags.created_by ∷
+    tags.creation_date ∷ tags.is_obsolete ∷ tags.replaced_by ∷ tags.consider ∷ []
 
 -- whether a tag is one of these
 abbrev pub is_among : List (List ℕ) → List ℕ → Bool
@@ -57,24 +58,24 @@ place_of kind tag = position (λ one. bytes_eq one tag) (tags_of kind)
 -- the tags whose value is a text, an id and a pair of ids
 abbrev pub text_tags : List (List ℕ)
 text_tags =
-    codes "format-version" ∷ codes "data-version" ∷ codes "date" ∷ codes "saved-by" ∷
-    codes "auto-generated-by" ∷ codes "default-namespace" ∷ codes "idspace" ∷ codes "remark" ∷
-    codes "name" ∷ codes "namespace" ∷ codes "comment" ∷ codes "created_by" ∷
-    codes "creation_date" ∷ []
+    tags.format_version ∷ tags.data_version ∷ tags.date ∷ tags.saved_by ∷
+    tags.auto_generated_by ∷ tags.default_namespace ∷ tags.idspace ∷ tags.remark ∷
+    tags.name ∷ tags.namespace ∷ tags.comment ∷ tags.created_by ∷
+    tags.creation_date ∷ []
 
 abbrev pub id_tags : List (List ℕ)
 id_tags =
-    codes "id" ∷ codes "import" ∷ codes "ontology" ∷ codes "alt_id" ∷ codes "subset" ∷
-    codes "is_a" ∷ codes "union_of" ∷ codes "equivalent_to" ∷ codes "disjoint_from" ∷
-    codes "replaced_by" ∷ codes "consider" ∷ codes "domain" ∷ codes "range" ∷
-    codes "transitive_over" ∷ codes "inverse_of" ∷ codes "instance_of" ∷ []
+    tags.id ∷ tags.import ∷ tags.ontology ∷ tags.alt_id ∷ tags.subset ∷
+    tags.is_a ∷ tags.union_of ∷ tags.equivalent_to ∷ tags.disjoint_from ∷
+    tags.replaced_by ∷ tags.consider ∷ tags.domain ∷ tags.range ∷
+    tags.transitive_over ∷ tags.inverse_of ∷ tags.instance_of ∷ []
 
 abbrev pub pair_tags : List (List ℕ)
-pair_tags = codes "relationship" ∷ codes "holds_over_chain" ∷ []
+pair_tags = tags.relationship ∷ tags.holds_over_chain ∷ []
 
 -- whether a tag's value is a truth value: `builtin`, and each tag that begins with `is_`. `is_a` is an id
 abbrev pub is_bool_tag : List ℕ → Bool
-is_bool_tag tag = bytes_eq tag (codes "builtin") || starts_with nat_eq tag (codes "is_")
+is_bool_tag tag = bytes_eq tag (tags.builtin) || starts_with nat_eq tag (codes "is_")
 
 -- the shape of a tag's value
 unfoldable pub shape_of : List ℕ → ValueShape
@@ -82,14 +83,14 @@ shape_of tag =
     if is_among text_tags tag then shapes.Text
     else (if is_among id_tags tag then shapes.Id
     else (if is_among pair_tags tag then shapes.Pair
-    else (if bytes_eq tag (codes "intersection_of") then shapes.IdOrPair
+    else (if bytes_eq tag (tags.intersection_of) then shapes.IdOrPair
     else (if is_bool_tag tag then shapes.Bool
-    else (if bytes_eq tag (codes "def") then shapes.Def
-    else (if bytes_eq tag (codes "synonym") then shapes.Synonym
-    else (if bytes_eq tag (codes "xref") then shapes.XrefShape
-    else (if bytes_eq tag (codes "property_value") then shapes.Property
-    else (if bytes_eq tag (codes "subsetdef") then shapes.SubsetDef
-    else (if bytes_eq tag (codes "synonymtypedef") then shapes.SynonymDef
+    else (if bytes_eq tag (tags.def) then shapes.Def
+    else (if bytes_eq tag (tags.synonym) then shapes.Synonym
+    else (if bytes_eq tag (tags.xref) then shapes.XrefShape
+    else (if bytes_eq tag (tags.property_value) then shapes.Property
+    else (if bytes_eq tag (tags.subsetdef) then shapes.SubsetDef
+    else (if bytes_eq tag (tags.synonymtypedef) then shapes.SynonymDef
     else shapes.Raw))))))))))
 
 -- the shape of a tag's value in a frame of the kind: Raw where the tag is foreign there

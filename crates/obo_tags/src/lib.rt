@@ -3,8 +3,10 @@
 #![tactic(auto)]
 
 mod kind;
+mod laws;
 mod table;
 mod tag;
 
 pub use kind::{FrameKind, ValueShape};
+pub use laws::raw_is_foreign;
 pub use tag::{Tag, rank, shape, tag_of};

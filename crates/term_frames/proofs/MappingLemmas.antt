@@ -4,17 +4,13 @@ use Rattle.std.specs.Cmp.Lexicographic.{pointwise}
 use Rattle.std.specs.Option.{option_map_or}
 use Rattle.std.specs.Prelude.{nat_eq}
 use Rattle.std.proofs.lemmas.Bool.{and_parts, false≢true}
-use Rattle.std.proofs.lemmas.List.Elements.{All-weaker}
-use Rattle.std.proofs.lemmas.List.Sums.{list_all-from_AllPass}
 use Rattle.iri_map.specs.Candidate.{id_of}
-use Rattle.iri_map.specs.Escape.{stays_in_url}
 use Rattle.iri_map.specs.Id.{base, colon, iri_of, is_canonical, is_canonical_id, is_number, is_prefix}
 use Rattle.iri_map.specs.Split.{Parts, split_at_first}
 use Rattle.iri_map.proofs.CandidateLemmas.{split_at_first-joined}
-use Rattle.iri_map.proofs.EscapeLemmas.{implies_by_table, stays_in_url-high}
 use Rattle.iri_map.proofs.LawLemmas.{CanonicalIdIsSettled-all, FollowsForms-all}
-use Rattle.iri_map.proofs.UrlLemmas.{IsCleanUrl-iri_of}
-use Rattle.rel_io.specs.Texts.{is_clean_iri, is_iri_byte}
+use Rattle.iri_map.proofs.UrlLemmas.{IsCleanUrl-iri_of, is_clean_iri-url}
+use Rattle.rel_io.specs.Texts.{is_clean_iri}
 use Rattle.owl_axioms.specs.Proper.{IsProper, is_class_iri, is_proper, is_proper_body, is_proper_expr, proper_step}
 use Rattle.owl_axioms.specs.Text.{owl_nothing, owl_thing, rdfs_label}
 use Rattle.owl_axioms.specs.declared.expr.ClassExpr.TheFolds.{para-roll-ClassExpr}
@@ -66,13 +62,9 @@ same_id id other space is other_is same =
 
 -- ---- proper axioms
 
-stays_is_iri_byte : (b : ℕ) → stays_in_url b ≡ true → is_iri_byte b ≡ true
-stays_is_iri_byte = implies_by_table stays_in_url is_iri_byte refl stays_in_url-high
-
 -- the IRI of an id has no byte that an IRI may not have
 pub iri_is_clean : (id space : List ℕ) → IsTrue (is_clean_iri (iri_of id space))
-unfolding is_clean_iri
-iri_is_clean id space = list_all-from_AllPass is_iri_byte (iri_of id space) (All-weaker (λ b. stays_in_url b ≡ true) (λ b. is_iri_byte b ≡ true) stays_is_iri_byte (iri_of id space) (IsCleanUrl-iri_of id space).clean)
+iri_is_clean id space = is_clean_iri-url (iri_of id space) (IsCleanUrl-iri_of id space)
 
 rdfs_label_is_clean : IsTrue (is_clean_iri rdfs_label)
 unfolding is_clean_iri rdfs_label

@@ -1,7 +1,7 @@
 use Rattle.std.proofs.Common.{◌≡◌, false, not, ◌&&◌, codes, sym, ◌∙◌}
 use Rattle.std.specs.Str.{bytes_eq}
-use Rattle.clause_reader.proofs.ShapeLemmas.{shape_behind-found}
-use Rattle.clause_reader.proofs.reader.shape_at.Goals as goal
+use Rattle.obo_clause.proofs.ShapeLemmas.{shape_behind-found}
+use Rattle.obo_clause.proofs.fit.shape_at.Goals as goal
 
 pub returns : goal.returns
 returns c =

@@ -1,0 +1,4 @@
+pub mod Examples
+pub mod Interp
+pub mod Laws
+pub mod Models
