@@ -24,7 +24,8 @@ use Rattle.text_sets.specs.Sorted.{Rises}
 use Rattle.text_sets.proofs.PartLemmas.{first_some-found, option_and_then_some, option_map_some, option_cases}
 use Rattle.obo_mapping.specs.Axioms.{Situation, axiom_said, entity_of, frame_id, frame_kind, framed, is_declared, is_logical, is_metadata, name_as, note_axiom, ontology_axiom, said_at}
 use Rattle.obo_notes.specs.Context.{Agree, Reading, Writing, where_true}
-use Rattle.obo_notes.specs.Forms.{Note, said}
+use Rattle.obo_notes.specs.Forms.{said}
+use Rattle.obo_notes.specs.declared.note.Note.{Note}
 use Rattle.obo_notes.specs.Keys.{side_of_qualifier}
 use Rattle.obo_notes.specs.Notes.{form_of, meaning, qualifiers_of, rows, sorted_sides, spelling, with_qualifiers}
 use Rattle.obo_statements.specs.Statements.{StatementRow, stated, statement_by, statement_in, statement_meaning, statement_spelling, statements_of, value_stating}

@@ -22,7 +22,8 @@ use Rattle.clause_printer.specs.Printing.{qualifier_text}
 use Rattle.obo_mapping.specs.Axioms.{Framed, Situation, is_metadata}
 use Rattle.obo_notes.specs.Context.{Reading, Writing, where_true}
 use Rattle.obo_mapping.specs.Documents.{group_of, group_with, has_reserved_key, has_tag, is_broken, is_header, is_misfit, is_of_metadata, is_other_name, is_raw, is_truth_value, is_typedef, is_untranslatable, situation_of}
-use Rattle.obo_notes.specs.Forms.{Form, Note, said, spelled_as}
+use Rattle.obo_notes.specs.Forms.{Form, said, spelled_as}
+use Rattle.obo_notes.specs.declared.note.Note.{Note}
 use Rattle.obo_notes.specs.Keys.{is_reserved_key, key_of, plain_text, qualifier_of}
 use Rattle.obo_notes.specs.Notes.{clause_by, clause_with, form_of, meaning, qualifiers_of, rows, spelling, tags_tried, with_qualifiers}
 use Rattle.obo_statements.specs.Statements.{Statement, StatementRow, stated, statement_by, statement_in, statement_meaning, statement_spelling, statements_of, value_stating}

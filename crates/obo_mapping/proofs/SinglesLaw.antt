@@ -22,7 +22,8 @@ use Rattle.text_sets.proofs.PartLemmas.{option_and_then_some, option_map_some}
 use Rattle.text_sets.proofs.SortedLemmas.{sorted_by-only}
 use Rattle.obo_mapping.specs.Axioms.{Framed, Home, Situation, at_home, axiom_said, axiom_spelled, body_spelled, declaring, frame_id, frame_kind, framed, home_at, home_of, id_clause, is_declared, is_logical, metadata_clause, name_as, note_axiom, ontology_axiom, said_at, statement_spelled}
 use Rattle.obo_notes.specs.Context.{Agree, Reading, Writing}
-use Rattle.obo_notes.specs.Forms.{Note, first_part, note_of, said}
+use Rattle.obo_notes.specs.Forms.{first_part, note_of, said}
+use Rattle.obo_notes.specs.declared.note.Note.{Note}
 use Rattle.obo_notes.specs.Notes.{form_of, meaning, rows, spelling, with_qualifiers}
 use Rattle.obo_clause.specs.declared.clause.Value.TheVariants as value
 use Rattle.obo_statements.specs.Statements.{anchors, class_anchor, statement_spelling}

@@ -30,7 +30,9 @@ use Rattle.text_sets.proofs.SortedLemmas.{sorted_by-only}
 use Rattle.obo_mapping.specs.Axioms.{Framed, Home, at_home, axiom_spelled, body_spelled, declaring, frame_id, frame_kind, framed, home_at, home_of, id_clause, is_declared, is_logical, metadata_clause, name_as, statement_spelled}
 use Rattle.obo_notes.specs.Context.{Agree, Reading, Writing}
 use Rattle.obo_mapping.specs.Documents.{clauses_for, group_spelled, has_reserved_key, is_raw}
-use Rattle.obo_notes.specs.Forms.{Note, note_of}
+use Rattle.obo_notes.specs.Forms.{note_of}
+use Rattle.obo_clause.specs.Fits.{Fits}
+use Rattle.obo_notes.specs.declared.note.Note.{Note}
 use Rattle.obo_notes.specs.Keys.{is_reserved_key}
 use Rattle.obo_notes.specs.Notes.{qualifiers_of, spelling}
 use Rattle.obo_statements.specs.Statements.{Group, anchors, class_anchor, clauses_with, group_clauses, group_in_body, group_operands, group_spelling, group_tag, intersection, operand_value, other_expr, statement_spelling, union}
@@ -39,7 +41,6 @@ use Rattle.obo_notes.proofs.NoteLaws.{note_reads_back}
 use Rattle.obo_mapping.proofs.PlainClauses.{IsNote, IsStatementIn, is_note, is_statement, no_reserved, note_no_reserved, statement_no_reserved}
 use Rattle.obo_notes.proofs.NoteFits.{spelled_note_fits}
 use Rattle.obo_mapping.proofs.SpelledFits.{spelled_group_fits, spelled_statement_fits}
-use Rattle.clause_printer.specs.Laws.{Fits}
 use Rattle.obo_mapping.proofs.SinglesLaw.{IsStatement, anchors_logical, home_at-is, home_is}
 
 abbrev HasNoSix : Clause → Type 0

@@ -17,7 +17,8 @@ use Rattle.owl_axioms.specs.declared.name.Kind.TheVariants as kinds
 use Rattle.owl_axioms.specs.declared.name.Name.{Name}
 use Rattle.text_sets.specs.Sorted.{sorted_by}
 use Rattle.obo_notes.specs.Context.{Reading, Writing, where_true}
-use Rattle.obo_notes.specs.Forms.{Note, first_part, note_of}
+use Rattle.obo_notes.specs.Forms.{first_part, note_of}
+use Rattle.obo_notes.specs.declared.note.Note.{Note}
 use Rattle.obo_notes.specs.Notes.{meaning, spelling}
 use Rattle.obo_statements.specs.Statements.{anchors, statement_meaning, statement_spelling}
 

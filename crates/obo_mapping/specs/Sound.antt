@@ -4,7 +4,7 @@ use Rattle.text_sets.specs.Parts.{each_some}
 use Rattle.text_sets.specs.Sets.{In}
 use Rattle.text_sets.specs.Sorted.{sorted_by}
 use Rattle.obo_clause.specs.declared.clause.Clause.{Clause}
-use Rattle.clause_printer.specs.Laws.{Fits}
+use Rattle.obo_clause.specs.Fits.{Fits}
 use Rattle.owl_axioms.specs.Text.{expr_text}
 use Rattle.owl_axioms.specs.declared.expr.ClassExpr.{ClassExpr}
 use Rattle.obo_mapping.specs.Axioms.{Framed, framed, id_clause}

@@ -20,7 +20,8 @@ use Rattle.obo_clause.specs.declared.clause.Value.TheVariants as value
 use Rattle.text_sets.proofs.SetLemmas.{In-append, In-from_filter, In-from_filter_map}
 use Rattle.text_sets.specs.Sets.{In}
 use Rattle.rel_io.specs.Texts.{IsText}
-use Rattle.clause_printer.specs.Laws.{FitBehind, Fits, FitsQualifier, FitsShape}
+use Rattle.obo_clause.specs.Fits.{FitBehind, Fits, FitsQualifier, FitsShape}
+use Rattle.obo_notes.specs.declared.note.Note.{Note}
 use Rattle.owl_axioms.specs.Text.{side_text}
 use Rattle.owl_axioms.specs.declared.annotation.NoteValue.{NoteValue}
 use Rattle.owl_axioms.specs.declared.annotation.NoteValue.TheVariants as noted
@@ -36,7 +37,7 @@ use Rattle.text_sets.proofs.SortedLemmas.{Rises-sorted_by, sorted_by-only}
 use Rattle.obo_mapping.specs.Axioms.{Framed, Home, Situation, at_home, axiom_spelled, body_spelled, declaring, entity_of, frame_id, frame_kind, framed, home_at, is_declared, is_metadata, name_as, note_axiom, ontology_axiom}
 use Rattle.obo_notes.specs.Context.{Agree, Reading, Writing, reading_in, where_true, writing_in}
 use Rattle.obo_mapping.specs.Documents.{clauses_for, declared_in, default_in, group_spelled, has_reserved_key, has_tag, is_header, is_import, is_misfit, is_raw, is_truth_value, is_untranslatable, kept_with, owl, situation_of, space_of, text_in}
-use Rattle.obo_notes.specs.Forms.{Form, Note, literal, note_of, said}
+use Rattle.obo_notes.specs.Forms.{Form, literal, note_of, said}
 use Rattle.obo_notes.specs.Keys.{is_reserved_key, side_of_qualifier}
 use Rattle.obo_notes.specs.Notes.{form_of, meaning, rows, spelling, with_qualifiers}
 use Rattle.obo_mapping.specs.Sound.{IsSound}

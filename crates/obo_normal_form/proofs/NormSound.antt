@@ -26,7 +26,7 @@ use Rattle.obo_clause.specs.declared.clause.Qualifier.{Qualifier}
 use Rattle.obo_clause.specs.declared.clause.Value.{Value}
 use Rattle.obo_clause.specs.declared.clause.Value.TheVariants as value
 use Rattle.obo_clause.specs.declared.clause.Xref.{Xref}
-use Rattle.clause_printer.specs.Laws.{FitBehind, Fits, FitsQualifier, FitsShape, FitsXref, IsWordOrNone}
+use Rattle.obo_clause.specs.Fits.{FitBehind, Fits, FitsQualifier, FitsShape, FitsXref, IsWordOrNone}
 use Rattle.clause_printer.specs.Printing.{qualifier_text, xref_text}
 use Rattle.owl_axioms.specs.declared.body.Axiom.{Axiom}
 use Rattle.owl_axioms.specs.declared.name.Kind.{Kind}

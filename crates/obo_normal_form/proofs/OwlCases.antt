@@ -22,7 +22,7 @@ use Rattle.text_sets.proofs.PartLemmas.{option_and_then_some, option_cases, opti
 use Rattle.obo_mapping.specs.Axioms.{Framed, Situation, axiom_said, declared_by, entity_of, framed, id_clause, is_logical, is_metadata, name_as, note_axiom, ontology_axiom, said_at, said_of}
 use Rattle.obo_notes.specs.Context.{Reading, reading_in, where_true}
 use Rattle.obo_mapping.specs.Documents.{declared_in, default_in, group_of, group_said, has_tag, is_header, is_namespace, is_raw, is_truth_value, is_typedef, is_untranslatable, kept_with, owl, situation_of, spaced, space_of, text_in}
-use Rattle.obo_notes.specs.Forms.{Note}
+use Rattle.obo_notes.specs.declared.note.Note.{Note}
 use Rattle.obo_notes.specs.Notes.{meaning}
 use Rattle.obo_mapping.specs.Sound.{IsSound}
 use Rattle.obo_statements.specs.Statements.{Group, Statement, character_body, expr_pair, group_expr, group_meaning, pair_of, stated, statement_in, statement_meaning, statements_of, transitive, reflexive, symmetric, asymmetric, functional, inverse_functional, Character}

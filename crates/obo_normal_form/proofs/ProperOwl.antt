@@ -34,7 +34,8 @@ use Rattle.obo_mapping.specs.Axioms.{Framed, Situation, axiom_said, entity_of}
 use Rattle.obo_mapping.specs.Back.{OwlIsSpellable}
 use Rattle.obo_notes.specs.Context.{Agree, Reading, Writing, datatype_by, datatype_iri, where_true, writing_in, xsd_prefix}
 use Rattle.obo_mapping.specs.Documents.{declared_in, has_tag, is_header, name_of, names_in, owl, situation_of, space_of, word_in}
-use Rattle.obo_notes.specs.Forms.{Form, Note, literal, said, synonym_property}
+use Rattle.obo_notes.specs.Forms.{Form, literal, said, synonym_property}
+use Rattle.obo_notes.specs.declared.note.Note.{Note}
 use Rattle.obo_notes.specs.Keys.{side_of_qualifier}
 use Rattle.obo_notes.specs.Notes.{Row, form_in, form_of, meaning, rows, sorted_sides, with_qualifiers}
 use Rattle.obo_mapping.specs.Sound.{IsSound}

@@ -13,7 +13,7 @@ use Rattle.obo_clause.specs.declared.clause.Value.{Value}
 use Rattle.obo_clause.specs.declared.clause.Value.TheVariants as value
 use Rattle.text_sets.proofs.SetLemmas.{In-from_map, In-map}
 use Rattle.text_sets.specs.Sets.{AreTold, In}
-use Rattle.clause_printer.specs.Laws.{FitBehind, FitsQualifier}
+use Rattle.obo_clause.specs.Fits.{FitBehind, FitsQualifier}
 use Rattle.clause_printer.specs.Printing.{qualifier_text, xref_text}
 use Rattle.text_sets.specs.Sorted.{sorted_by}
 use Rattle.text_sets.proofs.PartLemmas.{option_cases}

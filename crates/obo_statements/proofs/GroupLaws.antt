@@ -25,7 +25,7 @@ use Rattle.obo_clause.specs.declared.clause.Qualifier.{Qualifier}
 use Rattle.obo_clause.specs.declared.clause.Value.{Value}
 use Rattle.obo_clause.specs.declared.clause.Value.TheVariants as value
 use Rattle.obo_clause.proofs.AnswerLemmas.{spells-one-clause}
-use Rattle.clause_printer.specs.Laws.{FitBehind, Fits, FitsQualifier, FitsShape}
+use Rattle.obo_clause.specs.Fits.{FitBehind, Fits, FitsQualifier, FitsShape}
 use Rattle.clause_printer.specs.Printing.{behind_space, clause_text, value_text}
 use Rattle.clause_printer.proofs.PrintedLines.{printed_line}
 use Rattle.std.specs.Str.{bytes_eq}
