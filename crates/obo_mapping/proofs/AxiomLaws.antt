@@ -28,9 +28,10 @@ use Rattle.obo_notes.specs.Forms.{said}
 use Rattle.obo_notes.specs.declared.note.Note.{Note}
 use Rattle.obo_notes.specs.Keys.{side_of_qualifier}
 use Rattle.obo_notes.specs.Notes.{form_of, meaning, qualifiers_of, rows, sorted_sides, spelling, with_qualifiers}
-use Rattle.obo_statements.specs.Statements.{StatementRow, stated, statement_by, statement_in, statement_meaning, statement_spelling, statements_of, value_stating}
+use Rattle.obo_statements.specs.Statements.{StatementRow, stated_plainly, statement_by, statement_in, statement_meaning, statement_spelling, statements_of, value_plainly}
 use Rattle.obo_notes.proofs.Guards.{same_bytes, where_true_some}
 use Rattle.obo_notes.proofs.NoteLaws.{note_reads_back, same_sides}
+use Rattle.obo_statements.proofs.PlainMeaning.{meaning_is_plain, no_extras, no_reserved, plain_by, spelling_is_plain}
 use Rattle.obo_statements.proofs.StatementLaws.{statement-back}
 
 pub id_has_no_form : form_of (codes "id") ≡ None
@@ -88,20 +89,21 @@ module _ (reading : Reading) (writing : Writing) (agree : Agree reading writing)
   -- what is spelled as a statement states it
   pub statement_reads_back : (kind : FrameKind) (x : List ℕ) (one : Axiom) (clause : Clause) → is_proper_body one.body ≡ true → Rises side_text one.sides → statement_spelling writing kind x one ≡ Some clause
       → (statement_meaning reading kind x clause ≡ Some one) × (meaning reading clause ≡ None) × (bytes_eq clause.tag (codes "id") ≡ false)
-  unfolding statement_meaning statement_spelling meaning
+  unfolding meaning
   statement_reads_back kind x one clause proper rises is =
-      let row = first_some-found (statement_by writing x one) (statements_of kind) clause is in
-      let v = option_and_then_some (λ v. option_map (λ qualifiers. let c : Clause = record { tag = row.0.tag; value = v; qualifiers = qualifiers } in c) (qualifiers_of one.sides)) (value_stating writing x row.0.statement one.body) clause row.2 in
+      let row = first_some-found (plain_by writing x one) (statements_of kind) clause (sym (spelling_is_plain writing kind x one) ∙ is) in
+      let v = option_and_then_some (λ v. option_map (λ qualifiers. let c : Clause = record { tag = row.0.tag; value = v; qualifiers = qualifiers } in c) (qualifiers_of one.sides)) (value_plainly writing x row.0.statement one.body) clause row.2 in
       let made = option_map_some (λ (qs : List Qualifier). let c : Clause = record { tag = row.0.tag; value = v.0; qualifiers = qs } in c) (qualifiers_of one.sides) clause v.2 in
       let says = statement-back reading writing agree x row.0.statement one.body v.0 proper v.1 in
       let sides = same_sides one.sides [] one.sides made.0 rises (Rattle.text_sets.proofs.PartLemmas.Splits-nothing one.sides) made.1 in
       let apart = and_parts (is_none (form_of row.0.tag)) (not (bytes_eq row.0.tag (codes "id"))) (passes_in is_apart (statements_of kind) row.0 (all_apart kind) row.1) in
-      let stated_is : option_and_then (λ statement. stated reading x statement v.0) (first_some (statement_in row.0.tag) (statements_of kind)) ≡ Some one.body =
-      ap (option_and_then (λ statement. stated reading x statement v.0)) (found_again [] (statements_of kind) row.0 (rows_first kind) row.1) ∙ says in
+      let stated_is : option_and_then (λ statement. stated_plainly reading x statement v.0) (first_some (statement_in row.0.tag) (statements_of kind)) ≡ Some one.body =
+      ap (option_and_then (λ statement. stated_plainly reading x statement v.0)) (found_again [] (statements_of kind) row.0 (rows_first kind) row.1) ∙ says in
       let c : Clause = record { tag = row.0.tag; value = v.0; qualifiers = made.0 } in
       let no_note : option_and_then (λ form. said reading form v.0) (form_of row.0.tag) ≡ None = ap (option_and_then (λ form. said reading form v.0)) (Rattle.obo_notes.proofs.Guards.none_from_is_none (form_of row.0.tag) apart.0) in
       subst (λ (z : Clause). (statement_meaning reading kind x z ≡ Some one) × (meaning reading z ≡ None) × (bytes_eq z.tag (codes "id") ≡ false)) made.2 (
-        ap (option_map (λ b. let a : Axiom = record { body = b; sides = sorted_sides (map side_of_qualifier made.0) } in a)) stated_is ∙ (λ i. Some (record { body = one.body; sides = sides i })),
+        meaning_is_plain reading kind x c (no_extras made.0 (no_reserved one.sides made.0 made.1))
+        ∙ ap (option_map (λ b. let a : Axiom = record { body = b; sides = sorted_sides (map side_of_qualifier made.0) } in a)) stated_is ∙ (λ i. Some (record { body = one.body; sides = sides i })),
         ap (option_map (with_qualifiers made.0)) no_note,
         not-true (bytes_eq row.0.tag (codes "id")) apart.1,
       )

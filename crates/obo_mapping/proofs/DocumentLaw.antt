@@ -25,6 +25,7 @@ use Rattle.obo_mapping.specs.Documents.{clauses_for, declared_in, group_of, grou
 use Rattle.obo_notes.specs.Forms.{first_part}
 use Rattle.obo_notes.specs.Notes.{form_of, rows}
 use Rattle.obo_statements.specs.Statements.{Group, group_in_body, group_spelling, group_tag, intersection, union}
+use Rattle.obo_mapping.proofs.SaidSingly.{owl_singly}
 use Rattle.obo_mapping.proofs.AxiomLaws.{Knows}
 use Rattle.obo_notes.proofs.ContextLemmas.{Agree-in}
 use Rattle.obo_notes.proofs.Guards.{same_bytes, where_true_some}
@@ -296,7 +297,7 @@ module _ (names : List (List ℕ)) (K : List Framed) (O : List Axiom) where
 
       -- the law
       pub says_spaced : SameMembers (owl D) (spaced spaces_kept defaults_kept O)
-      unfolding owl
       says_spaced =
           let said = filter_map (axiom_said S) (translated D w O agrees knows spelled_in) ++ filter_map (group_said S D) (translated D w O agrees knows spelled_in) in
-          same_spaced spaces_kept spaces_kept defaults_kept defaults_kept said O (same_refl spaces_kept) (same_refl defaults_kept) (axioms_are D w O agrees knows spelled_in)
+          subst (λ o. SameMembers o (spaced spaces_kept defaults_kept O)) (sym (owl_singly D))
+          (same_spaced spaces_kept spaces_kept defaults_kept defaults_kept said O (same_refl spaces_kept) (same_refl defaults_kept) (axioms_are D w O agrees knows spelled_in))

@@ -3,6 +3,7 @@ pub mod BackLaw
 pub mod DocumentLaw
 pub mod OfSet
 pub mod PlainClauses
+pub mod SaidSingly
 pub mod SetLaws
 pub mod SinglesLaw
 pub mod SpacedLaws

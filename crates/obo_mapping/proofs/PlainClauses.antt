@@ -26,7 +26,8 @@ use Rattle.obo_notes.specs.Forms.{Form, said, spelled_as}
 use Rattle.obo_notes.specs.declared.note.Note.{Note}
 use Rattle.obo_notes.specs.Keys.{is_reserved_key, key_of, plain_text, qualifier_of}
 use Rattle.obo_notes.specs.Notes.{clause_by, clause_with, form_of, meaning, qualifiers_of, rows, spelling, tags_tried, with_qualifiers}
-use Rattle.obo_statements.specs.Statements.{Statement, StatementRow, stated, statement_by, statement_in, statement_meaning, statement_spelling, statements_of, value_stating}
+use Rattle.obo_statements.specs.Statements.{Statement, StatementRow, stated_plainly, statement_by, statement_in, statement_meaning, statement_spelling, statements_of, value_plainly}
+use Rattle.obo_statements.proofs.PlainMeaning.{meant_plainly, no_reserved, plain_by, spelling_is_plain}
 use Rattle.obo_mapping.proofs.AxiomLaws.{all_apart, is_apart, passes_in}
 use Rattle.obo_notes.proofs.Guards.{none_from_is_none, same_bytes, where_true_some}
 use Rattle.obo_notes.proofs.KeyLemmas.{key_of-back}
@@ -52,8 +53,8 @@ said_not_raw : (reading : Reading) (form : Form) (v : Value) (note : Note) → s
 said_not_raw reading form (value.Raw text) note is = absurd (none-some note (sym (said_raw reading form text) ∙ is))
 said_not_raw reading form _ note is = refl
 
-stated_raw : (reading : Reading) (x : List ℕ) (statement : Statement) (text : List ℕ) → stated reading x statement (value.Raw text) ≡ None
-unfolding stated
+stated_raw : (reading : Reading) (x : List ℕ) (statement : Statement) (text : List ℕ) → stated_plainly reading x statement (value.Raw text) ≡ None
+unfolding stated_plainly
 stated_raw reading x Statement.below_class text = refl
 stated_raw reading x Statement.restricted text = refl
 stated_raw reading x Statement.same_class text = refl
@@ -176,10 +177,9 @@ pub id_tag : PlainTag (codes "id")
 id_tag = plain_from_test (codes "id") refl
 
 pub is_statement : (reading : Reading) (kind : FrameKind) (x : List ℕ) (c : Clause) (a : Axiom) → statement_meaning reading kind x c ≡ Some a → IsStatementIn kind c
-unfolding statement_meaning
 is_statement reading kind x c a is =
-    let body = option_map_some _ (option_and_then (λ statement. stated reading x statement c.value) (first_some (statement_in c.tag) (statements_of kind))) a is in
-    let statement = option_and_then_some (λ statement. stated reading x statement c.value) (first_some (statement_in c.tag) (statements_of kind)) body.0 body.1 in
+    let body = option_map_some _ (option_and_then (λ statement. stated_plainly reading x statement c.value) (first_some (statement_in c.tag) (statements_of kind))) a (meant_plainly reading kind x c a is) in
+    let statement = option_and_then_some (λ statement. stated_plainly reading x statement c.value) (first_some (statement_in c.tag) (statements_of kind)) body.0 body.1 in
     let row = first_some-found (statement_in c.tag) (statements_of kind) statement.0 statement.1 in
     record {
       raw = not_raw c.value statement.0 body.0 statement.2;
@@ -188,29 +188,11 @@ is_statement reading kind x c a is =
       same = same_bytes row.0.tag c.tag (where_true_some (bytes_eq row.0.tag c.tag) (Some row.0.statement) statement.0 row.2).0;
     }
   where
-    not_raw : (v : Value) (statement : Statement) (said : Rattle.owl_axioms.specs.declared.body.Body.Body) → stated reading x statement v ≡ Some said → is_raw v ≡ false
+    not_raw : (v : Value) (statement : Statement) (said : Rattle.owl_axioms.specs.declared.body.Body.Body) → stated_plainly reading x statement v ≡ Some said → is_raw v ≡ false
     not_raw (value.Raw text) statement said is = absurd (none-some said (sym (stated_raw reading x statement text) ∙ is))
     not_raw _ statement said is = refl
 
 -- ---- qualifiers of spelled clauses have no key with a meaning of its own
-
-key_not_six : (side : Side) (q : Qualifier) → qualifier_of side ≡ Some q → is_reserved_key q.key ≡ false
-unfolding qualifier_of
-key_not_six side q is =
-    let key = option_and_then_some (λ key. option_map (λ text. let one : Qualifier = record { key = key; value = text } in one) (plain_text side)) (key_of side.property) q is in
-    let text = option_map_some (λ text. let one : Qualifier = record { key = key.0; value = text } in one) (plain_text side) q key.2 in
-    subst (λ (one : Qualifier). is_reserved_key one.key ≡ false) text.2 (key_of-back side.property key.0 key.1).1
-
-pub any_false : {X : Type 0} (p : X → Bool) (xs : List X) → ((x : X) → In x xs → p x ≡ false) → list_any p xs ≡ false
-any_false p xs each = false_from_ne_true (list_any p xs) (λ is. let x = in_from_any p xs is in both_ways (p x.0) (each x.0 x.1) x.2)
-
-pub no_reserved : (sides : List Side) (qualifiers : List Qualifier) → qualifiers_of sides ≡ Some qualifiers → list_any (λ (q : Qualifier). is_reserved_key q.key) qualifiers ≡ false
-no_reserved sides qualifiers is =
-    let found = option_map_some (sorted_by qualifier_text) (each_some qualifier_of sides) qualifiers is in
-    any_false (λ (q : Qualifier). is_reserved_key q.key) qualifiers (λ q here.
-    let among = sorted_by-only qualifier_text found.0 q (subst (In q) (sym found.2) here) in
-    let side = each_some-parts qualifier_of sides found.0 found.1 q among in
-    key_not_six side.0 q side.2)
 
 pub note_no_reserved : (writing : Writing) (kind : FrameKind) (note : Note) (c : Clause) → spelling writing kind note ≡ Some c → list_any (λ (q : Qualifier). is_reserved_key q.key) c.qualifiers ≡ false
 unfolding spelling clause_by
@@ -222,10 +204,9 @@ note_no_reserved writing kind note c is =
     subst (λ (d : Clause). list_any (λ (q : Qualifier). is_reserved_key q.key) d.qualifiers ≡ false) made.2 (no_reserved one.0.rest made.0 made.1)
 
 pub statement_no_reserved : (writing : Writing) (kind : FrameKind) (x : List ℕ) (a : Axiom) (c : Clause) → statement_spelling writing kind x a ≡ Some c → list_any (λ (q : Qualifier). is_reserved_key q.key) c.qualifiers ≡ false
-unfolding statement_spelling
 statement_no_reserved writing kind x a c is =
-    let row = first_some-found (statement_by writing x a) (statements_of kind) c is in
-    let v = option_and_then_some (λ v. option_map (λ qualifiers. let d : Clause = record { tag = row.0.tag; value = v; qualifiers = qualifiers } in d) (qualifiers_of a.sides)) (value_stating writing x row.0.statement a.body) c row.2 in
+    let row = first_some-found (plain_by writing x a) (statements_of kind) c (sym (spelling_is_plain writing kind x a) ∙ is) in
+    let v = option_and_then_some (λ v. option_map (λ qualifiers. let d : Clause = record { tag = row.0.tag; value = v; qualifiers = qualifiers } in d) (qualifiers_of a.sides)) (value_plainly writing x row.0.statement a.body) c row.2 in
     let made = option_map_some (λ (qs : List Qualifier). let d : Clause = record { tag = row.0.tag; value = v.0; qualifiers = qs } in d) (qualifiers_of a.sides) c v.2 in
     subst (λ (d : Clause). list_any (λ (q : Qualifier). is_reserved_key q.key) d.qualifiers ≡ false) made.2 (no_reserved a.sides made.0 made.1)
 

@@ -1,5 +1,5 @@
 -- Each clause that stands for an axiom is one that some line spells in its frame.
-use Rattle.std.proofs.Common.{◌≡◌, ◌<◌, ℕ, Bool, true, false, ◌&&◌, List, [], ◌∷◌, codes, length, All, Option, Some, inl, inr, ⊎_elim, refl, sym, subst, arith}
+use Rattle.std.proofs.Common.{◌≡◌, ◌<◌, ℕ, Bool, true, false, ◌&&◌, List, [], ◌∷◌, codes, length, All, Option, Some, inl, inr, ⊎_elim, refl, sym, subst, arith, ◌∙◌}
 use Rattle.std.specs.List.{AllPass, list_all}
 use Rattle.std.specs.Option.{option_and_then, option_map}
 use Rattle.std.specs.Prelude.{nat_lt}
@@ -37,9 +37,10 @@ use Rattle.text_sets.proofs.SortedLemmas.{sorted_by-only}
 use Rattle.obo_notes.specs.Context.{Agree, Reading, Writing, where_true}
 use Rattle.obo_notes.specs.Keys.{qualifier_of}
 use Rattle.obo_notes.specs.Notes.{qualifiers_of}
-use Rattle.obo_statements.specs.Statements.{Group, Statement, StatementRow, class_id, clauses_with, group_clauses, group_in_body, group_operands, group_spelling, group_tag, intersection, operand_value, other_class, other_expr, other_of, restriction_words, statement_by, statement_spelling, statements_of, union, value_stating, transitive, reflexive, symmetric, asymmetric, functional, inverse_functional}
+use Rattle.obo_statements.specs.Statements.{Group, Statement, StatementRow, class_id, clauses_with, group_clauses, group_in_body, group_operands, group_spelling, group_tag, intersection, operand_value, other_class, other_expr, other_of, restriction_words, statement_by, statement_spelling, statements_of, union, value_plainly, transitive, reflexive, symmetric, asymmetric, functional, inverse_functional}
 use Rattle.obo_notes.proofs.Guards.{where_true_some}
 use Rattle.obo_notes.proofs.NoteLaws.{each_fits}
+use Rattle.obo_statements.proofs.PlainMeaning.{plain_by, spelling_is_plain}
 use Rattle.obo_statements.proofs.StatementLaws.{class_id-readable, words_back}
 use Rattle.obo_notes.proofs.XrefLists.{all_from_in}
 
@@ -130,8 +131,8 @@ module _ (reading : Reading) (writing : Writing) (agree : Agree reading writing)
       let words = words_back reading writing agree x d v is in
       subst (FitsShape shapes.Pair) words.value_is (word_from_readable words.role words.role_fits, word_from_readable words.filler words.filler_fits)
 
-  statement_value : (s : Statement) (b : Body) (v : Value) → value_stating writing x s b ≡ Some v → FitsShape (statement_shape s) v
-  unfolding value_stating
+  statement_value : (s : Statement) (b : Body) (v : Value) → value_plainly writing x s b ≡ Some v → FitsShape (statement_shape s) v
+  unfolding value_plainly
   statement_value Statement.below_class (body.Sub c d) v is = class_value d v (where_true_some _ _ v is).1
   statement_value Statement.restricted (body.Sub c d) v is = words_value d v (where_true_some _ _ v is).1
   statement_value Statement.same_class (body.Equiv c d) v is = other_class_value c d v is
@@ -162,10 +163,9 @@ module _ (reading : Reading) (writing : Writing) (agree : Agree reading writing)
 
   -- the clause of a statement is one that some line spells
   pub spelled_statement_fits : (kind : FrameKind) (a : Axiom) (c : Clause) → statement_spelling writing kind x a ≡ Some c → Fits kind false c
-  unfolding statement_spelling
   spelled_statement_fits kind a c is =
-      let row = first_some-found (statement_by writing x a) (statements_of kind) c is in
-      let v = option_and_then_some (λ v. option_map (λ qualifiers. let d : Clause = record { tag = row.0.tag; value = v; qualifiers = qualifiers } in d) (qualifiers_of a.sides)) (value_stating writing x row.0.statement a.body) c row.2 in
+      let row = first_some-found (plain_by writing x a) (statements_of kind) c (sym (spelling_is_plain writing kind x a) ∙ is) in
+      let v = option_and_then_some (λ v. option_map (λ qualifiers. let d : Clause = record { tag = row.0.tag; value = v; qualifiers = qualifiers } in d) (qualifiers_of a.sides)) (value_plainly writing x row.0.statement a.body) c row.2 in
       let made = option_map_some (λ (qs : List Qualifier). let d : Clause = record { tag = row.0.tag; value = v.0; qualifiers = qs } in d) (qualifiers_of a.sides) c v.2 in
       let good = Rattle.obo_mapping.proofs.AxiomLaws.passes_in is_good_tag (statements_of kind) row.0 (tags_good kind) row.1 in
       let parts = and_parts (nat_lt 0 (length row.0.tag)) (list_all is_tag_byte row.0.tag) good in

@@ -27,10 +27,12 @@ use Rattle.obo_mapping.specs.Documents.{clauses_for, declared_in, group_in, grou
 use Rattle.obo_notes.specs.Notes.{form_of, meaning}
 use Rattle.obo_statements.specs.Statements.{Group, group_in_body, group_meaning, group_operands, group_spelling, group_tag, intersection, statement_in, statement_meaning, statements_of, union}
 use Rattle.obo_mapping.proofs.AxiomLaws.{Knows}
+use Rattle.obo_statements.proofs.PlainMeaning.{group_is_plain, no_extras, plain_group}
 use Rattle.obo_statements.proofs.GroupLaws.{IsRising, group_reads_set}
 use Rattle.obo_notes.proofs.Guards.{same_bytes, where_true_some}
 use Rattle.obo_mapping.proofs.OfSet.{any_from_in, in_from_any}
-use Rattle.obo_mapping.proofs.PlainClauses.{IsNoneOfMetadata, Plain, any_false, id_tag, intersection_no_form, is_translatable, no_group, no_note, no_statement, note_tag, statement_tag, union_no_form}
+use Rattle.obo_mapping.proofs.PlainClauses.{IsNoneOfMetadata, Plain, id_tag, intersection_no_form, is_translatable, no_group, no_note, no_statement, note_tag, statement_tag, union_no_form}
+use Rattle.obo_statements.proofs.PlainMeaning.{any_false}
 use Rattle.obo_statements.proofs.Rising.{group_rises}
 use Rattle.obo_mapping.proofs.SetLaws.{EachSays}
 use Rattle.obo_mapping.proofs.SinglesLaw.{IsStatement, body_says}
@@ -76,8 +78,8 @@ group_silent situation id clause group of =
     let statement = ap (λ t. first_some (statement_in t) (statements_of Term)) of.tag ∙ no_term_statement group in
     λ i. option_or (where_true (tag i) (Some (record { body = body.Declaration name; sides = [] })))
     (option_or (option_map (note_axiom name) (none i))
-    (option_map (λ said. record { body = said; sides = Rattle.obo_notes.specs.Notes.sorted_sides (map Rattle.obo_notes.specs.Keys.side_of_qualifier clause.qualifiers) })
-    (option_and_then (λ s. Rattle.obo_statements.specs.Statements.stated situation.reading (situation.reading.iri id) s clause.value) (statement i))))
+    (option_map (λ said. record { body = said; sides = Rattle.obo_notes.specs.Notes.sorted_sides (Rattle.obo_statements.specs.Statements.annotations_of clause.qualifiers) })
+    (option_and_then (λ s. Rattle.obo_statements.specs.Statements.stated situation.reading (situation.reading.iri id) s (Rattle.obo_statements.specs.Statements.extras_of clause.qualifiers) clause.value) (statement i))))
 
 -- ---- names
 
@@ -261,10 +263,13 @@ module _ (D : List Framed) (w : Writing) (O : List Axiom) (agree : Agree (situat
     group_means : (a : Axiom) (group : Group) (x : List ℕ) (clauses others : List Clause) → (IsStatement a.body → is_proper_body a.body ≡ true) → Rises side_text a.sides → group_spelling w x group a ≡ Some clauses → SameMembers others clauses
         → (group_meaning S.reading x group others ≡ Some a) × ((c : Clause) × In c clauses)
     unfolding group_spelling
-    group_means a group x clauses others proper rises spelled_is same = by_body a.body a.sides proper rises spelled_is
+    group_means a group x clauses others proper rises spelled_is same =
+        let plain = by_body a.body a.sides proper rises spelled_is in
+        let free = λ (c : Clause) (here : In c others). no_extras c.qualifiers (group_clause w x group a clauses spelled_is c ((same c).0 here)).six in
+        (group_is_plain S.reading x group others free ∙ plain.0, plain.1)
       where
         by_body : (said : Body) (sides : List Rattle.owl_axioms.specs.declared.annotation.Side.Side) → (IsStatement said → is_proper_body said ≡ true) → Rises side_text sides → group_in_body w x group sides said ≡ Some clauses
-            → (group_meaning S.reading x group others ≡ Some (record { body = said; sides = sides })) × ((c : Clause) × In c clauses)
+            → (plain_group S.reading x group others ≡ Some (record { body = said; sides = sides })) × ((c : Clause) × In c clauses)
         by_body (body.Equiv c d) sides proper rises spelled_is = (
           group_reads_set S.reading w agree group x c d sides clauses others (pair_in_order c d (proper tt)).0 (rising group c d (proper tt)) rises spelled_is same,
           Rattle.obo_statements.proofs.GroupLaws.group_has_clause S.reading w agree group x c d sides clauses (rising group c d (proper tt)) spelled_is,

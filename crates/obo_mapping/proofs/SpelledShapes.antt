@@ -38,7 +38,8 @@ use Rattle.obo_notes.specs.Notes.{qualifiers_of, spelling}
 use Rattle.obo_statements.specs.Statements.{Group, anchors, class_anchor, clauses_with, group_clauses, group_in_body, group_operands, group_spelling, group_tag, intersection, operand_value, other_expr, statement_spelling, union}
 use Rattle.obo_mapping.proofs.AxiomLaws.{statement_reads_back}
 use Rattle.obo_notes.proofs.NoteLaws.{note_reads_back}
-use Rattle.obo_mapping.proofs.PlainClauses.{IsNote, IsStatementIn, is_note, is_statement, no_reserved, note_no_reserved, statement_no_reserved}
+use Rattle.obo_mapping.proofs.PlainClauses.{IsNote, IsStatementIn, is_note, is_statement, note_no_reserved, statement_no_reserved}
+use Rattle.obo_statements.proofs.PlainMeaning.{no_reserved}
 use Rattle.obo_notes.proofs.NoteFits.{spelled_note_fits}
 use Rattle.obo_mapping.proofs.SpelledFits.{spelled_group_fits, spelled_statement_fits}
 use Rattle.obo_mapping.proofs.SinglesLaw.{IsStatement, anchors_logical, home_at-is, home_is}
@@ -186,7 +187,7 @@ module _ (reading : Reading) (writing : Writing) (agree : Agree reading writing)
   declaring_shape kinds.Individual iri id a f says has here = ⊎_elim (λ same. inl (record { name = name_as kinds.Individual iri; id = id; says = says; has = has; same = same })) (λ none. absurd none) here
 
   statement_shape : (a : Axiom) (cs : List Framed) (f : Framed) → IsStatement a.body → is_proper_body a.body ≡ true → Rises side_text a.sides → statement_spelled writing declared a ≡ Some cs → In f cs → AloneShape a f
-  statement_shape a cs f stated proper rises is here =
+  statement_shape a cs f stated_plainly proper rises is here =
       let home = option_and_then_some (λ (home : Home). option_map (at_home home) (statement_spelling writing (frame_kind home.entity.kind) home.entity.iri a)) (home_of writing declared a.body) cs is in
       let clause = option_map_some (at_home home.0) (statement_spelling writing (frame_kind home.0.entity.kind) home.0.entity.iri a) cs home.2 in
       let at = home_is writing declared a.body home.0 home.1 in
@@ -199,7 +200,7 @@ module _ (reading : Reading) (writing : Writing) (agree : Agree reading writing)
         id = home.0.id;
         clause = clause.0;
         same = same;
-        logical = anchors_logical a.body stated entity at.among;
+        logical = anchors_logical a.body stated_plainly entity at.among;
         known = at.declared;
         has = at.id;
         says = is_statement reading (frame_kind entity.kind) entity.iri clause.0 a back.0;

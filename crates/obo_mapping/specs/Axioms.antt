@@ -1,7 +1,7 @@
 -- One axiom and the clauses of its frame: what a clause in its frame says, and in which frame by which clauses an axiom
 -- stands. Groups, whose clauses say one axiom together, stand apart. (Own.)
 use Rattle.std.specs.Prelude.{ℕ, Bool, true, false, ◌&&◌, List, [], ◌∷◌, codes, if◌then◌else◌, Option, None, Some}
-use Rattle.std.specs.Option.{option_and_then, option_map, option_or}
+use Rattle.std.specs.Option.{option_and_then, option_map, option_or, option_to_list}
 use Rattle.std.specs.Str.{bytes_eq}
 use Rattle.std.specs.List.{filter_map, list_any}
 use Rattle.obo_tags.specs.declared.kind.FrameKind.{FrameKind}
@@ -98,6 +98,10 @@ said_at situation one (Some name) = said_of situation one.frame name one.clause
 -- what a clause says, if it says an axiom by itself
 unfoldable pub axiom_said : Situation → Framed → Option Axiom
 axiom_said situation one = said_at situation one (entity_of situation one.frame one.id)
+
+-- all that a clause says by itself
+unfoldable pub axioms_said : Situation → Framed → List Axiom
+axioms_said situation one = option_to_list (axiom_said situation one)
 
 -- ---- where an axiom stands
 

@@ -9,7 +9,7 @@ use Rattle.owl_axioms.specs.Text.{expr_text}
 use Rattle.owl_axioms.specs.declared.expr.ClassExpr.{ClassExpr}
 use Rattle.obo_mapping.specs.Axioms.{Framed, framed, id_clause}
 use Rattle.obo_mapping.specs.Documents.{group_in, group_of, has_tag, is_header, is_raw, situation_of}
-use Rattle.obo_statements.specs.Statements.{Group, operand_read}
+use Rattle.obo_statements.specs.Statements.{Group, operand_plainly}
 
 pub record IsSound (d : List Framed) : Type 0 where
   pub fits : (f : Framed) → In f d → Fits f.frame (has_tag (codes "id") f && not (is_raw f.clause.value)) f.clause
@@ -17,7 +17,7 @@ pub record IsSound (d : List Framed) : Type 0 where
   pub header : (f : Framed) → In f d → is_header f ≡ true → f.id ≡ []
   -- no group has one operand
   pub groups : (f : Framed) (group : Group) (operands : List ClassExpr) → In f d → group_of f ≡ Some group
-      → each_some (λ (clause : Clause). operand_read (situation_of d).reading group clause.value) (map (λ (each : Framed). each.clause) (group_in (situation_of d) d ((situation_of d).reading.iri f.id) group)) ≡ Some operands
+      → each_some (λ (clause : Clause). operand_plainly (situation_of d).reading group clause.value) (map (λ (each : Framed). each.clause) (group_in (situation_of d) d ((situation_of d).reading.iri f.id) group)) ≡ Some operands
       → 2 ≤ length (sorted_by expr_text operands)
 
 -- each clause is one that a line spells, each frame has its `id` clause, and the header has no id

@@ -45,10 +45,11 @@ use Rattle.obo_notes.specs.Forms.{first_part}
 use Rattle.obo_notes.specs.Keys.{is_reserved_key, side_of_qualifier}
 use Rattle.obo_notes.specs.Notes.{qualifiers_of, sorted_sides}
 use Rattle.obo_mapping.specs.Sound.{IsSound}
-use Rattle.obo_statements.specs.Statements.{Group, Statement, StatementRow, anchors, class_anchor, class_entity, class_id, class_iri, class_named, class_read, clauses_with, expr_pair, group_clauses, group_expr, group_in_body, group_meaning, group_operands, group_spelling, group_tag, intersection, is_class, operand_read, operand_value, operands_in, other_expr, restriction, restriction_words, stated, statement_by, statement_in, statement_spelling, statements_of, union, value_stating}
+use Rattle.obo_statements.specs.Statements.{Group, Statement, StatementRow, anchors, class_anchor, class_entity, class_id, class_iri, class_named, class_read, clauses_with, expr_pair, group_clauses, group_expr, group_in_body, group_meaning, group_operands, group_spelling, group_tag, intersection, is_class, operand_plainly, operand_value, operands_in, other_expr, restriction, restriction_words, stated_plainly, statement_by, statement_in, statement_spelling, statements_of, union, value_plainly}
 use Rattle.obo_normal_form.proofs.FormedNotes.{HasForm, agree, all_not_six, declaration_formed, entity_iri, formed_by, frame_id_some, frame_of_entity, header_note_formed, note_formed, or_first, spacing_formed}
 use Rattle.obo_normal_form.proofs.FormedStatements.{OfQualifier, anchor_kind, class_anchor_named, class_read_some, clean_of, covers_at, iri_named, is_class_named, named_proper, order_total, restriction_proper, restriction_some, sides_some, some_map, then_some}
 use Rattle.obo_notes.proofs.Guards.{same_bytes, where_true_some}
+use Rattle.obo_statements.proofs.PlainMeaning.{grouped_plainly, plain_by, spelling_is_plain}
 use Rattle.obo_mapping.proofs.OfSet.{any_from_in}
 use Rattle.obo_normal_form.proofs.OwlCases as source
 use Rattle.obo_notes.proofs.PartCovers.{All-In, some_value}
@@ -110,8 +111,8 @@ statement_body w declared a (body.Note subject property noted) one = absurd one
 statement_body w declared a (body.OntologyNote property noted) one = absurd one
 statement_body w declared a _ one = refl
 
-stated_false : (reading : Reading) (x : List ℕ) (s : Statement) → stated reading x s (value.Bool false) ≡ None
-unfolding stated
+stated_false : (reading : Reading) (x : List ℕ) (s : Statement) → stated_plainly reading x s (value.Bool false) ≡ None
+unfolding stated_plainly
 stated_false reading x Statement.below_class = refl
 stated_false reading x Statement.restricted = refl
 stated_false reading x Statement.same_class = refl
@@ -128,12 +129,12 @@ stated_false reading x Statement.chain = refl
 stated_false reading x Statement.member = refl
 stated_false reading x Statement.related = refl
 
-stated_not_false : (reading : Reading) (x : List ℕ) (s : Statement) (v : Value) (b : Body) → stated reading x s v ≡ Some b → is_truth_value false v ≡ false
+stated_not_false : (reading : Reading) (x : List ℕ) (s : Statement) (v : Value) (b : Body) → stated_plainly reading x s v ≡ Some b → is_truth_value false v ≡ false
 stated_not_false reading x s (value.Bool false) b is = absurd (none-some b (sym (stated_false reading x s) ∙ is))
 stated_not_false reading x s (value.Bool true) b is = refl
 stated_not_false reading x s _ b is = refl
 
-operand_not_false : (reading : Reading) (g : Group) (v : Value) (e : ClassExpr) → operand_read reading g v ≡ Some e → is_truth_value false v ≡ false
+operand_not_false : (reading : Reading) (g : Group) (v : Value) (e : ClassExpr) → operand_plainly reading g v ≡ Some e → is_truth_value false v ≡ false
 operand_not_false reading intersection (value.Bool truth) e is = absurd (none-some e is)
 operand_not_false reading union (value.Bool truth) e is = absurd (none-some e is)
 operand_not_false reading g _ e is = refl
@@ -255,7 +256,7 @@ module _ (d : List Framed) (sound : IsSound d) where
       sorted_some (λ (h : Home). h.id) (filter_map (home_at w declared) (anchors said)) home (In-filter_map (home_at w declared) home (anchors said) name among at)
 
   statement_formed : (f : Framed) (a : Axiom) → In f d → is_untranslatable d f ≡ false → source.IsStated S f a → HasForm d sound a
-  unfolding axiom_spelled statement_spelling
+  unfolding axiom_spelled
   statement_formed f a here free is =
       let name = is.name in
       let by = source.stated_by S.reading f.frame name.iri f.clause a is.means in
@@ -276,11 +277,11 @@ module _ (d : List Framed) (sound : IsSound d) where
       let plain = no_misfit f (free_misfit f free) (no_import f tagged.import) (stated_not_false S.reading name.iri s f.clause.value a.body by.said) in
       let quals : IsSome (qualifiers_of a.sides) = subst (λ ss. IsSome (qualifiers_of ss)) by.sides (sides_some (map side_of_qualifier f.clause.qualifiers) (of_qualifiers f here plain)) in
       let x = home.0.entity.iri in
-      let by_row : IsSome (statement_by w x a row.0) =
-      then_some (λ v. option_map (λ qualifiers. let c : Clause = record { tag = row.0.tag; value = v; qualifiers = qualifiers } in c) (qualifiers_of a.sides)) (value_stating w x row.0.statement a.body)
-      (subst (λ t. IsSome (value_stating w x t a.body)) (sym row_is) states.1)
+      let by_row : IsSome (plain_by w x a row.0) =
+      then_some (λ v. option_map (λ qualifiers. let c : Clause = record { tag = row.0.tag; value = v; qualifiers = qualifiers } in c) (qualifiers_of a.sides)) (value_plainly w x row.0.statement a.body)
+      (subst (λ t. IsSome (value_plainly w x t a.body)) (sym row_is) states.1)
       (λ v. some_map (λ qualifiers. let c : Clause = record { tag = row.0.tag; value = v; qualifiers = qualifiers } in c) (qualifiers_of a.sides) quals) in
-      let in_frame : IsSome (statement_spelling w f.frame x a) = first_some-some (statement_by w x a) (statements_of f.frame) row.0 row.1 by_row in
+      let in_frame : IsSome (statement_spelling w f.frame x a) = subst (λ o. IsSome o) (sym (spelling_is_plain w f.frame x a)) (first_some-some (plain_by w x a) (statements_of f.frame) row.0 row.1 by_row) in
       let clause = some_value (statement_spelling w (frame_kind home.0.entity.kind) x a) (subst (λ k. IsSome (statement_spelling w k x a)) (sym home_frame) in_frame) in
       let spelled : statement_spelled w declared a ≡ Some (at_home home.0 clause.0) =
       ap (option_and_then (λ (home : Home). option_map (at_home home) (statement_spelling w (frame_kind home.entity.kind) home.entity.iri a))) home.1 ∙ ap (option_map (at_home home.0)) clause.1 in
@@ -289,7 +290,7 @@ module _ (d : List Framed) (sound : IsSound d) where
 
   -- ---- groups
 
-  operand_some : (g : Group) (v : Value) (e : ClassExpr) → operand_read S.reading g v ≡ Some e → IsSome (operand_value w g e) × (is_proper_expr e ≡ true)
+  operand_some : (g : Group) (v : Value) (e : ClassExpr) → operand_plainly S.reading g v ≡ Some e → IsSome (operand_value w g e) × (is_proper_expr e ≡ true)
   operand_some union (value.Id id) e is = subst (λ x. IsSome (operand_value w union x) × (is_proper_expr x ≡ true)) (same_Some _ e is)
       (class_read_some S.reading w (agree d sound) role_same (λ x. refl) id, named_proper (S.reading.iri id) (clean_of S.reading w (agree d sound) role_same (λ x. refl) id))
   operand_some intersection (value.Id id) e is = subst (λ x. IsSome (operand_value w intersection x) × (is_proper_expr x ≡ true)) (same_Some _ e is)
@@ -334,7 +335,7 @@ module _ (d : List Framed) (sound : IsSound d) where
     clauses = map (λ (each : Framed). each.clause) members
 
     abbrev read : Clause → Option ClassExpr
-    read clause = operand_read S.reading g clause.value
+    read clause = operand_plainly S.reading g clause.value
 
     abbrev of_clause : Clause → List Side
     of_clause clause = map side_of_qualifier clause.qualifiers
@@ -418,16 +419,15 @@ module _ (d : List Framed) (sound : IsSound d) where
           (cases_Bool (in_order (expr_text c) (expr_text whole)))
 
   group_formed : (f : Framed) (a : Axiom) → In f d → is_untranslatable d f ≡ false → source.IsGrouped d f a → HasForm d sound a
-  unfolding group_meaning
   group_formed f a here free is =
       let g = is.group in
       let x = S.reading.iri f.id in
       let clauses = map (λ (each : Framed). each.clause) (group_in S d x g) in
-      let read = λ (clause : Clause). operand_read S.reading g clause.value in
+      let read = λ (clause : Clause). operand_plainly S.reading g clause.value in
       let made = option_map_some (λ operands. let one : Axiom = record {
         body = expr_pair (class_named x) (group_expr g (sorted_by expr_text operands));
         sides = sorted_sides (flat_map (λ (clause : Clause). map side_of_qualifier clause.qualifiers) clauses);
-      } in one) (each_some read clauses) a is.means in
+      } in one) (each_some read clauses) a (grouped_plainly S.reading x g clauses a is.means) in
       subst (HasForm d sound) made.2 (group_has f g here free is.has made.0 made.1)
 
   -- ---- each axiom

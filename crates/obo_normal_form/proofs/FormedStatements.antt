@@ -35,7 +35,7 @@ use Rattle.obo_mapping.specs.Axioms.{name_as}
 use Rattle.obo_notes.specs.Context.{Agree, Reading, Writing, where_true}
 use Rattle.obo_notes.specs.Keys.{is_reserved_key, qualifier_of, side_of_qualifier}
 use Rattle.obo_notes.specs.Notes.{qualifiers_of, sorted_sides}
-use Rattle.obo_statements.specs.Statements.{Character, Statement, StatementRow, anchors, class_anchor, class_entity, class_id, class_iri, class_named, class_read, disjoint_classes, is_class, other_class, other_of, pair_of, restriction, restriction_words, role_entity, same_classes, stated, statement_by, statement_in, statement_spelling, statements_of, value_stating, words_of, transitive, reflexive, symmetric, asymmetric, functional, inverse_functional}
+use Rattle.obo_statements.specs.Statements.{Character, Statement, StatementRow, anchors, class_anchor, class_entity, class_id, class_iri, class_named, class_read, disjoint_classes, is_class, other_class, other_of, pair_of, restriction, restriction_words, role_entity, same_classes, stated_plainly, statement_by, statement_in, statement_spelling, statements_of, value_plainly, words_of, transitive, reflexive, symmetric, asymmetric, functional, inverse_functional}
 use Rattle.obo_notes.proofs.Guards.{same_bytes}
 use Rattle.obo_notes.proofs.KeyCovers.{qualifier_covered}
 use Rattle.obo_notes.proofs.PartCovers.{some_value}
@@ -208,22 +208,22 @@ module _ (reading : Reading) (writing : Writing) (agree : Agree reading writing)
 
   -- the frames of a body, each of which states it
   pub record Covers (kind : Kind) (x : List ℕ) (s : Statement) (b : Body) : Type 0 where
-    pub each : (name : Name) → In name (anchors b) → (name.kind ≡ kind) × IsSome (value_stating writing name.iri s b)
+    pub each : (name : Name) → In name (anchors b) → (name.kind ≡ kind) × IsSome (value_plainly writing name.iri s b)
     pub home : In (name_as kind x) (anchors b)
     pub proper : is_proper_body b ≡ true
 
-  single : (kind : Kind) (x : List ℕ) (s : Statement) (b : Body) → anchors b ≡ name_as kind x ∷ [] → IsSome (value_stating writing x s b) → is_proper_body b ≡ true → Covers kind x s b
+  single : (kind : Kind) (x : List ℕ) (s : Statement) (b : Body) → anchors b ≡ name_as kind x ∷ [] → IsSome (value_plainly writing x s b) → is_proper_body b ≡ true → Covers kind x s b
   single kind x s b are some proper = record {
-    each = λ name here. ⊎_elim (λ same. (ap (λ (n : Name). n.kind) (sym same), subst (λ (n : Name). IsSome (value_stating writing n.iri s b)) same some)) (λ none. absurd none) (subst (In name) are here);
+    each = λ name here. ⊎_elim (λ same. (ap (λ (n : Name). n.kind) (sym same), subst (λ (n : Name). IsSome (value_plainly writing n.iri s b)) same some)) (λ none. absurd none) (subst (In name) are here);
     home = subst (In (name_as kind x)) (sym are) (inl refl);
     proper = proper;
   }
 
-  double : (kind : Kind) (x one two : List ℕ) (s : Statement) (b : Body) → anchors b ≡ name_as kind one ∷ name_as kind two ∷ [] → IsSome (value_stating writing one s b) → IsSome (value_stating writing two s b) → is_proper_body b ≡ true → (one ≡ x) ⊎ (two ≡ x) → Covers kind x s b
+  double : (kind : Kind) (x one two : List ℕ) (s : Statement) (b : Body) → anchors b ≡ name_as kind one ∷ name_as kind two ∷ [] → IsSome (value_plainly writing one s b) → IsSome (value_plainly writing two s b) → is_proper_body b ≡ true → (one ≡ x) ⊎ (two ≡ x) → Covers kind x s b
   double kind x one two s b are some_one some_two proper which = record {
     each = λ name here. ⊎_elim
-        (λ same. (ap (λ (n : Name). n.kind) (sym same), subst (λ (n : Name). IsSome (value_stating writing n.iri s b)) same some_one))
-        (λ more. ⊎_elim (λ same. (ap (λ (n : Name). n.kind) (sym same), subst (λ (n : Name). IsSome (value_stating writing n.iri s b)) same some_two)) (λ none. absurd none) more)
+        (λ same. (ap (λ (n : Name). n.kind) (sym same), subst (λ (n : Name). IsSome (value_plainly writing n.iri s b)) same some_one))
+        (λ more. ⊎_elim (λ same. (ap (λ (n : Name). n.kind) (sym same), subst (λ (n : Name). IsSome (value_plainly writing n.iri s b)) same some_two)) (λ none. absurd none) more)
         (subst (In name) are here);
     home = subst (In (name_as kind x)) (sym are) (⊎_elim (λ same. inl (ap (name_as kind) same)) (λ same. inr (inl (ap (name_as kind) same))) which);
     proper = proper;
@@ -249,7 +249,7 @@ module _ (reading : Reading) (writing : Writing) (agree : Agree reading writing)
 
   class_pair : (make : List ℕ → List ℕ → Body) (s : Statement) (x a b : List ℕ) → IsNamed a → IsNamed b
       → anchors (make a b) ≡ class_anchor (class_named a) ++ class_anchor (class_named b)
-      → ((y : List ℕ) → value_stating writing y s (make a b) ≡ option_and_then (λ one. option_map value.Id (writing.id one)) (other_class y (class_named a) (class_named b)))
+      → ((y : List ℕ) → value_plainly writing y s (make a b) ≡ option_and_then (λ one. option_map value.Id (writing.id one)) (other_class y (class_named a) (class_named b)))
       → is_proper_body (make a b) ≡ true → (a ≡ x) ⊎ (b ≡ x) → Covers kinds.Class x s (make a b)
   class_pair make s x a b na nb are states proper which =
       let one = class_anchor_named a in let two = class_anchor_named b in
@@ -273,7 +273,7 @@ module _ (reading : Reading) (writing : Writing) (agree : Agree reading writing)
 
   role_pair : (make : List ℕ → List ℕ → Body) (s : Statement) (x a b : List ℕ) → IsNamed a → IsNamed b
       → anchors (make a b) ≡ name_as kinds.Role a ∷ name_as kinds.Role b ∷ []
-      → ((y : List ℕ) → value_stating writing y s (make a b) ≡ option_and_then (λ one. option_map value.Id (writing.role_id one)) (other_of y a b))
+      → ((y : List ℕ) → value_plainly writing y s (make a b) ≡ option_and_then (λ one. option_map value.Id (writing.role_id one)) (other_of y a b))
       → is_proper_body (make a b) ≡ true → (a ≡ x) ⊎ (b ≡ x) → Covers kinds.Role x s (make a b)
   role_pair make s x a b na nb are states proper which =
       double kinds.Role x a b s (make a b) are
@@ -286,7 +286,7 @@ module _ (reading : Reading) (writing : Writing) (agree : Agree reading writing)
   AllCovered x s (Some b) = Covers (anchor_kind s) x s b
 
   character_covered : (x : List ℕ) → IsNamed x → (c : Character) → Covers kinds.Role x (Statement.has_character c) (Rattle.obo_statements.specs.Statements.character_body c x)
-  unfolding value_stating anchors is_proper_body
+  unfolding value_plainly anchors is_proper_body
   character_covered x nx transitive = single kinds.Role x (Statement.has_character transitive) (body.Transitive x) refl (where_some (bytes_eq x x) _ (bytes_eq-refl x) refl) (named_clean x nx)
   character_covered x nx reflexive = single kinds.Role x (Statement.has_character reflexive) (body.Reflexive x) refl (where_some (bytes_eq x x) _ (bytes_eq-refl x) refl) (named_clean x nx)
   character_covered x nx symmetric = single kinds.Role x (Statement.has_character symmetric) (body.Symmetric x) refl (where_some (bytes_eq x x) _ (bytes_eq-refl x) refl) (named_clean x nx)
@@ -294,8 +294,8 @@ module _ (reading : Reading) (writing : Writing) (agree : Agree reading writing)
   character_covered x nx functional = single kinds.Role x (Statement.has_character functional) (body.Functional x) refl (where_some (bytes_eq x x) _ (bytes_eq-refl x) refl) (named_clean x nx)
   character_covered x nx inverse_functional = single kinds.Role x (Statement.has_character inverse_functional) (body.InverseFunctional x) refl (where_some (bytes_eq x x) _ (bytes_eq-refl x) refl) (named_clean x nx)
 
-  covered : (x : List ℕ) → IsNamed x → (s : Statement) (v : Value) → AllCovered x s (stated reading x s v)
-  unfolding stated value_stating anchors is_proper_body
+  covered : (x : List ℕ) → IsNamed x → (s : Statement) (v : Value) → AllCovered x s (stated_plainly reading x s v)
+  unfolding stated_plainly value_plainly anchors is_proper_body
   covered x nx Statement.below_class (value.Id id) =
       single kinds.Class x Statement.below_class (body.Sub (class_named x) (class_read reading id)) (class_anchor_named x)
       (where_some (is_class x (class_named x)) _ (is_class_named x nx) (class_read_some id))
@@ -360,5 +360,5 @@ module _ (reading : Reading) (writing : Writing) (agree : Agree reading writing)
       (and_from _ _ (and_from _ _ (role_clean role) (named_clean x nx)) (clean_of id))
   covered x nx _ _ = tt
 
-  pub covers_at : (x : List ℕ) → IsNamed x → (s : Statement) (v : Value) (b : Body) → stated reading x s v ≡ Some b → Covers (anchor_kind s) x s b
+  pub covers_at : (x : List ℕ) → IsNamed x → (s : Statement) (v : Value) (b : Body) → stated_plainly reading x s v ≡ Some b → Covers (anchor_kind s) x s b
   covers_at x nx s v b is = subst (AllCovered x s) is (covered x nx s v)

@@ -28,7 +28,8 @@ use Rattle.obo_notes.specs.Context.{Reading, Writing}
 use Rattle.obo_mapping.specs.Documents.{group_in, group_of, is_untranslatable, owl, situation_of}
 use Rattle.obo_notes.specs.Keys.{side_of_qualifier}
 use Rattle.obo_notes.specs.Notes.{qualifiers_of, sorted_sides}
-use Rattle.obo_statements.specs.Statements.{Character, Group, Statement, class_named, clauses_with, expr_pair, group_clauses, group_expr, group_in_body, group_meaning, group_operands, group_spelling, intersection, is_class, operand_read, operand_value, other_expr, pair_of, stated, union, transitive, reflexive, symmetric, asymmetric, functional, inverse_functional}
+use Rattle.obo_statements.proofs.PlainMeaning.{grouped_plainly}
+use Rattle.obo_statements.specs.Statements.{Character, Group, Statement, class_named, clauses_with, expr_pair, group_clauses, group_expr, group_in_body, group_meaning, group_operands, group_spelling, intersection, is_class, operand_plainly, operand_value, other_expr, pair_of, stated_plainly, union, transitive, reflexive, symmetric, asymmetric, functional, inverse_functional}
 use Rattle.obo_statements.proofs.GroupLaws.{class_named-text, group_is_no_class, whole_of}
 use Rattle.obo_notes.proofs.Guards.{where_true_some}
 use Rattle.obo_normal_form.proofs.OwlCases.{IsSaidBy, IsSpaced, SaidCase, grouped_by, owl_cases, said_cases, stated_by}
@@ -137,8 +138,8 @@ pair_has_none : (make : List ℕ → List ℕ → Body) (x y : List ℕ) → ((a
 pair_has_none make x y each =
     ⊎_elim (λ yes. subst NoGroup (sym (cond-true _ (make x y) (make y x) yes)) (each x y)) (λ isnt. subst NoGroup (sym (cond-false _ (make x y) (make y x) isnt)) (each y x)) (cases_Bool (in_order (iri_text x) (iri_text y)))
 
-stated_none : (reading : Reading) (x : List ℕ) (statement : Statement) (v : Value) → NoneHasGroup (stated reading x statement v)
-unfolding stated
+stated_none : (reading : Reading) (x : List ℕ) (statement : Statement) (v : Value) → NoneHasGroup (stated_plainly reading x statement v)
+unfolding stated_plainly
 stated_none reading x Statement.below_class (value.Id id) = λ w y g sides cs is. none-some cs is
 stated_none reading x Statement.restricted (value.Pair role id) = λ w y g sides cs is. none-some cs is
 stated_none reading x Statement.same_class (value.Id id) = pair_has_none Rattle.obo_statements.specs.Statements.same_classes x (reading.iri id) (λ a b w y g sides cs is. classes_no_group w y g sides a b cs is)
@@ -168,12 +169,11 @@ pub record MeantBy (i : List ℕ) (h : Group) (a : Axiom) : Type 0 where
   pub body_is : expr_pair (class_named i) (group_expr h operands) ≡ a.body
 
 pub meant_by : (reading : Reading) (i : List ℕ) (h : Group) (clauses : List Clause) (a : Axiom) → group_meaning reading i h clauses ≡ Some a → MeantBy i h a
-unfolding group_meaning
 meant_by reading i h clauses a is =
     let made = option_map_some (λ operands. let one : Axiom = record {
       body = expr_pair (class_named i) (group_expr h (sorted_by expr_text operands));
       sides = sorted_sides (flat_map (λ (clause : Clause). map side_of_qualifier clause.qualifiers) clauses);
-    } in one) (each_some (λ (clause : Clause). operand_read reading h clause.value) clauses) a is in
+    } in one) (each_some (λ (clause : Clause). operand_plainly reading h clause.value) clauses) a (grouped_plainly reading i h clauses a is) in
     record { operands = sorted_by expr_text made.0; body_is = ap (λ (b : Axiom). b.body) made.2 }
 
 meant_group : (w : Writing) (x i : List ℕ) (g h : Group) (a : Axiom) (cs : List Clause) → MeantBy i h a → group_spelling w x g a ≡ Some cs → (i ≡ x) × (h ≡ g)

@@ -14,6 +14,7 @@ use Rattle.obo_mapping.specs.Axioms.{Framed}
 use Rattle.obo_notes.specs.Context.{where_true, writing_in}
 use Rattle.obo_mapping.specs.Documents.{has_tag, header_with, is_header, is_import, is_misfit, is_of_metadata, is_other_name, is_raw, is_said_elsewhere, is_untranslatable, kept, kept_with, name_of, names_in, norm, owl, situation_of, space_of, spaced, spelled, word_in}
 use Rattle.obo_normal_form.specs.NormLaws.{IsWhole, NormOfAxioms, NormOnce, NormSays, OwlSpaced}
+use Rattle.obo_mapping.proofs.SaidSingly.{owl_singly}
 use Rattle.obo_mapping.proofs.DocumentLaw.{name_clause}
 use Rattle.obo_normal_form.proofs.FormedAxioms.{formed}
 use Rattle.obo_notes.proofs.Guards.{same_bytes, where_true_some}
@@ -59,13 +60,13 @@ module _ (d : List Framed) (whole : IsWhole d) where
       both_ways (is_untranslatable d f.0) (whole.translated f.0 found.0) parts.1)
 
   pub owl_spaced : SameMembers (spaced [] [] (owl d)) (owl d)
-  unfolding owl
   owl_spaced =
       let for = source.spaces d in let texts = source.defaults d in
       let A = spaced for texts (source.said_in d) in
-      same_trans (spaced [] [] A) (spaced for texts A) A
+      subst (λ o. SameMembers (spaced [] [] o) o) (sym (owl_singly d))
+      (same_trans (spaced [] [] A) (spaced for texts A) A
       (same_spaced [] for [] texts A A (back for (no_kept (codes "namespace") _)) (back texts (no_kept (codes "default-namespace") _)) (same_refl A))
-      (spaced_again for texts (source.said_in d))
+      (spaced_again for texts (source.said_in d)))
     where
       back : {X : Type 0} (xs : List X) → SameMembers xs [] → SameMembers [] xs
       back xs same x = ((same x).1, (same x).0)

@@ -29,6 +29,7 @@ use Rattle.obo_notes.specs.Notes.{form_of}
 use Rattle.obo_mapping.specs.Sound.{IsSound}
 use Rattle.obo_statements.specs.Statements.{Group, group_spelling, group_tag, intersection, statement_in, statements_of, union}
 use Rattle.obo_notes.proofs.ContextLemmas.{Agree-in}
+use Rattle.obo_mapping.proofs.SaidSingly.{owl_singly}
 use Rattle.obo_mapping.proofs.DocumentLaw as law
 use Rattle.obo_normal_form.proofs.GroupSource.{group_once, group_source}
 use Rattle.obo_notes.proofs.Guards.{same_bytes, where_true_some}
@@ -479,8 +480,7 @@ module _ (d : List Framed) (sound : IsSound d) (formed : (a : Axiom) → In a (o
   default_counted = record { format = refl; ontology = refl; import = refl; meta = refl; no_format = refl; no_ontology = refl }
 
   owl_spaced : owl d ≡ spaced (source.spaces d) (source.defaults d) (source.said_in d)
-  unfolding owl
-  owl_spaced = refl
+  owl_spaced = owl_singly d
 
   -- the normal form says the same
   said_again : SameMembers (owl D) O

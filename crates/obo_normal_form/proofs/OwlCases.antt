@@ -25,8 +25,10 @@ use Rattle.obo_mapping.specs.Documents.{declared_in, default_in, group_of, group
 use Rattle.obo_notes.specs.declared.note.Note.{Note}
 use Rattle.obo_notes.specs.Notes.{meaning}
 use Rattle.obo_mapping.specs.Sound.{IsSound}
-use Rattle.obo_statements.specs.Statements.{Group, Statement, character_body, expr_pair, group_expr, group_meaning, pair_of, stated, statement_in, statement_meaning, statements_of, transitive, reflexive, symmetric, asymmetric, functional, inverse_functional, Character}
+use Rattle.obo_statements.specs.Statements.{Group, Statement, character_body, expr_pair, group_expr, group_meaning, pair_of, stated_plainly, statement_in, statement_meaning, statements_of, transitive, reflexive, symmetric, asymmetric, functional, inverse_functional, Character}
 use Rattle.obo_notes.proofs.Guards.{same_bytes, where_true_some}
+use Rattle.obo_mapping.proofs.SaidSingly.{owl_singly}
+use Rattle.obo_statements.proofs.PlainMeaning.{grouped_plainly, meant_plainly}
 use Rattle.obo_mapping.proofs.OfSet.{in_from_any}
 use Rattle.obo_mapping.proofs.PlainClauses.{id_tag, is_translatable, no_group}
 use Rattle.obo_mapping.proofs.SinglesLaw.{IsStatement}
@@ -101,8 +103,8 @@ IsOneOf (Some said) = IsStatement said
 is_one : (o : Option Body) (said : Body) → IsOneOf o → o ≡ Some said → IsStatement said
 is_one o said one is = subst IsOneOf is one
 
-stated_one : (reading : Reading) (x : List ℕ) (statement : Statement) (v : Value) → IsOneOf (stated reading x statement v)
-unfolding stated
+stated_one : (reading : Reading) (x : List ℕ) (statement : Statement) (v : Value) → IsOneOf (stated_plainly reading x statement v)
+unfolding stated_plainly
 stated_one reading x Statement.below_class (value.Id id) = tt
 stated_one reading x Statement.restricted (value.Pair role id) = tt
 stated_one reading x Statement.same_class (value.Id id) = pair_is IsStatement Rattle.obo_statements.specs.Statements.same_classes x (reading.iri id) (λ a b. tt)
@@ -129,15 +131,14 @@ stated_one reading x _ _ = tt
 pub record IsStatedBy (reading : Reading) (kind : FrameKind) (x : List ℕ) (c : Clause) (a : Axiom) : Type 0 where
   pub statement : Statement
   pub row : Rattle.text_sets.specs.Parts.first_some (statement_in c.tag) (statements_of kind) ≡ Some statement
-  pub said : stated reading x statement c.value ≡ Some a.body
+  pub said : stated_plainly reading x statement c.value ≡ Some a.body
   pub sides : Rattle.obo_notes.specs.Notes.sorted_sides (map Rattle.obo_notes.specs.Keys.side_of_qualifier c.qualifiers) ≡ a.sides
 
 pub stated_by : (reading : Reading) (kind : FrameKind) (x : List ℕ) (c : Clause) (a : Axiom) → statement_meaning reading kind x c ≡ Some a → IsStatedBy reading kind x c a
-unfolding statement_meaning
 stated_by reading kind x c a is =
     let rows = Rattle.text_sets.specs.Parts.first_some (statement_in c.tag) (statements_of kind) in
-    let said = option_map_some (λ said. let one : Axiom = record { body = said; sides = Rattle.obo_notes.specs.Notes.sorted_sides (map Rattle.obo_notes.specs.Keys.side_of_qualifier c.qualifiers) } in one) (option_and_then (λ statement. stated reading x statement c.value) rows) a is in
-    let statement = option_and_then_some (λ statement. stated reading x statement c.value) rows said.0 said.1 in
+    let said = option_map_some (λ said. let one : Axiom = record { body = said; sides = Rattle.obo_notes.specs.Notes.sorted_sides (map Rattle.obo_notes.specs.Keys.side_of_qualifier c.qualifiers) } in one) (option_and_then (λ statement. stated_plainly reading x statement c.value) rows) a (meant_plainly reading kind x c a is) in
+    let statement = option_and_then_some (λ statement. stated_plainly reading x statement c.value) rows said.0 said.1 in
     record {
       statement = statement.0;
       row = statement.1;
@@ -148,7 +149,7 @@ stated_by reading kind x c a is =
 pub stated_statement : (reading : Reading) (kind : FrameKind) (x : List ℕ) (c : Clause) (a : Axiom) → statement_meaning reading kind x c ≡ Some a → IsStatement a.body
 stated_statement reading kind x c a is =
     let by = stated_by reading kind x c a is in
-    is_one (stated reading x by.statement c.value) a.body (stated_one reading x by.statement c.value) by.said
+    is_one (stated_plainly reading x by.statement c.value) a.body (stated_one reading x by.statement c.value) by.said
 
 abbrev is_role : Name → Bool
 is_role name = Rattle.obo_mapping.specs.Axioms.same_kind name.kind kinds.Role
@@ -192,16 +193,16 @@ module _ (d : List Framed) where
   IsSpaced a = IsAdded (spaces ++ filter_map is_namespace said_in) said_in (default_of defaults said_in) a
 
   pub owl_cases : (a : Axiom) → In a (owl d) → IsSaidBy a ⊎ IsSpaced a
-  unfolding owl spaced
+  unfolding spaced
   owl_cases a here =
       ⊎_elim
       (λ said. inl (said_by a said))
       (λ more. inr (is_added (spaces ++ filter_map is_namespace said_in) said_in (default_of defaults said_in) a more))
-      (In-append a said_in (flat_map (added (spaces ++ filter_map is_namespace said_in) said_in) (option_to_list (default_of defaults said_in))) here)
+      (In-append a said_in (flat_map (added (spaces ++ filter_map is_namespace said_in) said_in) (option_to_list (default_of defaults said_in))) (subst (In a) (owl_singly d) here))
 
   pub said_in_owl : (a : Axiom) → In a said_in → In a (owl d)
-  unfolding owl spaced
-  said_in_owl a here = In-append_left a said_in (flat_map (added (spaces ++ filter_map is_namespace said_in) said_in) (option_to_list (default_of defaults said_in))) here
+  unfolding spaced
+  said_in_owl a here = subst (In a) (sym (owl_singly d)) (In-append_left a said_in (flat_map (added (spaces ++ filter_map is_namespace said_in) said_in) (option_to_list (default_of defaults said_in))) here)
 
   pub alone_in_owl : (f : Framed) (a : Axiom) → In f d → is_untranslatable d f ≡ false → axiom_said S f ≡ Some a → In a (owl d)
   alone_in_owl f a here free is =
@@ -250,9 +251,8 @@ module _ (d : List Framed) where
       not_header Instance is = refl
 
   no_declaration : (reading : Reading) (x : List ℕ) (group : Group) (cs : List Clause) (a : Axiom) (name : Name) → group_meaning reading x group cs ≡ Some a → a.body ≡ body.Declaration name → ⊥
-  unfolding group_meaning
   no_declaration reading x group cs a name is says =
-      let made = option_map_some _ (Rattle.text_sets.specs.Parts.each_some (λ (clause : Clause). Rattle.obo_statements.specs.Statements.operand_read reading group clause.value) cs) a is in
+      let made = option_map_some _ (Rattle.text_sets.specs.Parts.each_some (λ (clause : Clause). Rattle.obo_statements.specs.Statements.operand_plainly reading group clause.value) cs) a (grouped_plainly reading x group cs a is) in
       pair_declares _ (group_expr group _) (ap (λ (b : Axiom). b.body) made.2 ∙ says)
     where
       never : (said : Body) → (c e : ClassExpr) → said ≡ body.Equiv c e → said ≡ body.Declaration name → ⊥
@@ -279,7 +279,7 @@ module _ (d : List Framed) where
           (f, among, declared.entity ∙ ap declared_in declared.says ∙ Rattle.obo_mapping.proofs.SpelledLaw.name_declared a name says)
       by_case a f among says (inr (inl noted)) = absurd (none-some name (ap declared_in noted.says ∙ Rattle.obo_mapping.proofs.SpelledLaw.name_declared a name says))
       by_case a f among says (inr (inr (inl noted))) = absurd (none-some name (ap declared_in noted.says ∙ Rattle.obo_mapping.proofs.SpelledLaw.name_declared a name says))
-      by_case a f among says (inr (inr (inr stated))) = absurd (subst IsStatement says (stated_statement S.reading f.frame stated.name.iri f.clause a stated.means))
+      by_case a f among says (inr (inr (inr stated_plainly))) = absurd (subst IsStatement says (stated_statement S.reading f.frame stated_plainly.name.iri f.clause a stated_plainly.means))
 
   -- ---- annotation properties
 

@@ -39,8 +39,9 @@ use Rattle.obo_notes.specs.declared.note.Note.{Note}
 use Rattle.obo_notes.specs.Keys.{side_of_qualifier}
 use Rattle.obo_notes.specs.Notes.{Row, form_in, form_of, meaning, rows, sorted_sides, with_qualifiers}
 use Rattle.obo_mapping.specs.Sound.{IsSound}
-use Rattle.obo_statements.specs.Statements.{Group, class_named, expr_pair, group_expr, group_meaning, operand_read}
+use Rattle.obo_statements.specs.Statements.{Group, class_named, expr_pair, group_expr, group_meaning, operand_plainly}
 use Rattle.obo_notes.specs.Vocabulary.{iao_definition, iao_replaced_by, obo_in_owl, owl_deprecated, rdfs_comment, xsd, xsd_boolean, xsd_string}
+use Rattle.obo_statements.proofs.PlainMeaning.{grouped_plainly}
 use Rattle.obo_mapping.proofs.AxiomLaws.{passes_in}
 use Rattle.obo_normal_form.proofs.FormedAxioms.{formed, rises_test}
 use Rattle.obo_normal_form.proofs.FormedNotes.{HasForm, agree, entity_iri}
@@ -187,13 +188,12 @@ module _ (d : List Framed) (sound : IsSound d) where
       (cases_Bool (Rattle.owl_axioms.specs.Proper.in_order (Rattle.owl_axioms.specs.Text.expr_text c) (Rattle.owl_axioms.specs.Text.expr_text e)))
 
   group_is_proper : (reading : Reading) (x : List ℕ) (g : Group) (clauses : List Clause) (a : Axiom) → HasForm d sound a → group_meaning reading x g clauses ≡ Some a → is_proper a ≡ true
-  unfolding group_meaning
   group_is_proper reading x g clauses a form is =
       let of = λ (clause : Clause). map side_of_qualifier clause.qualifiers in
       let made = option_map_some (λ operands. let one : Axiom = record {
         body = expr_pair (class_named x) (group_expr g (sorted_by Rattle.owl_axioms.specs.Text.expr_text operands));
         sides = sorted_sides (flat_map (λ (clause : Clause). map side_of_qualifier clause.qualifiers) clauses);
-      } in one) (each_some (λ (clause : Clause). operand_read reading g clause.value) clauses) a is in
+      } in one) (each_some (λ (clause : Clause). operand_plainly reading g clause.value) clauses) a (grouped_plainly reading x g clauses a is) in
       let each : AreProperSides (flat_map of clauses) = λ s here.
       let c = In-from_flat_map of s clauses here in
       let q = In-from_map side_of_qualifier s c.0.qualifiers c.2 in

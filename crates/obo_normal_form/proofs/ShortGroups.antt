@@ -36,7 +36,8 @@ use Rattle.obo_statements.specs.Statements.{group_spelling, restriction}
 use Rattle.obo_mapping.specs.Documents.{group_in, group_of, group_said, group_with, has_tag, header_with, is_header, is_raw, is_term, is_untranslatable, kept, names_in, norm, owl, situation_of, spelled}
 use Rattle.obo_normal_form.specs.NormLaws.{NormIsSound}
 use Rattle.obo_mapping.specs.Sound.{IsFramed, IsSound}
-use Rattle.obo_statements.specs.Statements.{Group, class_named, expr_pair, group_expr, group_meaning, group_tag, intersection, operand_read, union}
+use Rattle.obo_statements.specs.Statements.{Group, class_named, expr_pair, group_expr, group_meaning, group_tag, intersection, operand_plainly, union}
+use Rattle.obo_statements.proofs.PlainMeaning.{grouped_plainly}
 use Rattle.obo_mapping.proofs.DocumentLaw as law
 use Rattle.obo_normal_form.proofs.FormedAxioms.{formed}
 use Rattle.obo_normal_form.proofs.NormLaw as norms
@@ -110,10 +111,9 @@ pair_states : (c e : ClassExpr) → IsStatement (expr_pair c e)
 pair_states c e = ⊎_elim (λ yes. subst IsStatement (sym (cond-true _ (body.Equiv c e) (body.Equiv e c) yes)) tt) (λ isnt. subst IsStatement (sym (cond-false _ (body.Equiv c e) (body.Equiv e c) isnt)) tt) (cases_Bool (in_order (expr_text c) (expr_text e)))
 
 meaning_two : (reading : Reading) (x : List ℕ) (g : Group) (clauses : List Clause) (a : Axiom) (operands : List ClassExpr) → (IsStatement a.body → is_proper_body a.body ≡ true)
-    → group_meaning reading x g clauses ≡ Some a → each_some (λ (clause : Clause). operand_read reading g clause.value) clauses ≡ Some operands → 2 ≤ length (sorted_by expr_text operands)
-unfolding group_meaning
+    → group_meaning reading x g clauses ≡ Some a → each_some (λ (clause : Clause). operand_plainly reading g clause.value) clauses ≡ Some operands → 2 ≤ length (sorted_by expr_text operands)
 meaning_two reading x g clauses a operands proper is found =
-    let made = option_map_some _ (each_some (λ (clause : Clause). operand_read reading g clause.value) clauses) a is in
+    let made = option_map_some _ (each_some (λ (clause : Clause). operand_plainly reading g clause.value) clauses) a (grouped_plainly reading x g clauses a is) in
     let same : made.0 ≡ operands = same_Some made.0 operands (sym made.1 ∙ found) in
     let body_is : expr_pair (class_named x) (group_expr g (sorted_by expr_text made.0)) ≡ a.body = ap (λ (b : Axiom). b.body) made.2 in
     subst (λ ops. 2 ≤ length (sorted_by expr_text ops)) same
@@ -130,7 +130,7 @@ module _ (reading : Reading) (writing : Writing) (agree : Agree reading writing)
   role_as_id : (id : List ℕ) → reading.iri (settled reading.role_iri writing.role_id id) ≡ reading.iri id
   role_as_id id = sym (role_same (settled reading.role_iri writing.role_id id)) ∙ role_reads id ∙ role_same id
 
-  operand_settled : (role literal : Bool) (g : Group) (v : Value) → operand_read reading g (settled_value reading writing role literal v) ≡ operand_read reading g v
+  operand_settled : (role literal : Bool) (g : Group) (v : Value) → operand_plainly reading g (settled_value reading writing role literal v) ≡ operand_plainly reading g v
   unfolding settled_value restriction
   operand_settled role true g (value.Id word) = refl
   operand_settled true false g (value.Id word) = ap (λ i. Some (class_named i)) (role_as_id word)
@@ -169,7 +169,7 @@ module _ (d : List Framed) (sound : IsSound d) where
   clauses_at f g = map (λ (each : Framed). each.clause) (group_in (situation_of D) D ((situation_of D).reading.iri f.id) g)
 
   abbrev read : Group → Clause → Option ClassExpr
-  read g clause = operand_read (situation_of D).reading g clause.value
+  read g clause = operand_plainly (situation_of D).reading g clause.value
 
   spelled_two : (f : Framed) (g : Group) (operands : List ClassExpr) → In f (spelled (law.w names K O) O) → group_of f ≡ Some g → each_some (read g) (clauses_at f g) ≡ Some operands → 2 ≤ length (sorted_by expr_text operands)
   unfolding Rattle.obo_mapping.specs.Axioms.axiom_spelled
@@ -228,11 +228,11 @@ module _ (d : List Framed) (sound : IsSound d) where
       let a = norms.iri_like d sound (formed d sound) m in let b = norms.iri_like d sound (formed d sound) f in
       λ i. is_term m.frame && not (r i) && bytes_eq (a i) (b i) && bytes_eq (t i) (group_tag g)
 
-  read_like : (m : Framed) (g : Group) → read g (as_kept S w m).clause ≡ operand_read S.reading g m.clause.value
+  read_like : (m : Framed) (g : Group) → read g (as_kept S w m).clause ≡ operand_plainly S.reading g m.clause.value
   read_like m g =
       let known = Rattle.obo_mapping.specs.Axioms.is_metadata S (S.reading.iri m.id) in
-      ap (λ (r : Reading). operand_read r g (as_kept S w m).clause.value) (norms.same_reading d sound (formed d sound))
-      ∙ settle.kept_by S.reading w (norms.agree d sound (formed d sound)) (operand_read S.reading g) known m (λ role literal. operand_settled S.reading w (norms.agree d sound (formed d sound)) (norms.role_same d sound (formed d sound)) role literal g m.clause.value)
+      ap (λ (r : Reading). operand_plainly r g (as_kept S w m).clause.value) (norms.same_reading d sound (formed d sound))
+      ∙ settle.kept_by S.reading w (norms.agree d sound (formed d sound)) (operand_plainly S.reading g) known m (λ role literal. operand_settled S.reading w (norms.agree d sound (formed d sound)) (norms.role_same d sound (formed d sound)) role literal g m.clause.value)
 
   -- no spelled clause is in a group that is kept
   not_spelled : (one : Framed) (g : Group) → In (as_kept S w one) K → group_of (as_kept S w one) ≡ Some g → (y : Framed) → In y (spelled (law.w names K O) O) → group_of y ≡ Some g
@@ -267,7 +267,7 @@ module _ (d : List Framed) (sound : IsSound d) where
       let one_has : group_of one ≡ Some g = sym (norms.group_like d sound (formed d sound) one) ∙ has in
       let old = group_in S d x g in
       let new = group_in (situation_of D) D x' g in
-      let read0 = λ (clause : Clause). operand_read S.reading g clause.value in
+      let read0 = λ (clause : Clause). operand_plainly S.reading g clause.value in
       let moved : (m : Framed) → In m old → In (as_kept S w m) new = λ m among.
       let found_m = In-from_filter (tested S x g) m d among in
       let is = member S x g m found_m.1 in

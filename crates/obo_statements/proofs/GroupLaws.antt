@@ -1,20 +1,16 @@
 -- The clauses of a group say its axiom.
-use Rattle.std.proofs.Common.{◌≡◌, ◌<◌, ◌⊎◌, ℕ, true, false, not, List, [], ◌∷◌, ◌++◌, codes, map, length, Option, Some, inl, inr, ⊎_elim, refl, sym, ap, subst, ◌∙◌, arith, if◌then◌else◌, append-nil}
+use Rattle.std.proofs.Common.{◌≡◌, ◌<◌, ◌⊎◌, ℕ, true, false, List, [], ◌∷◌, ◌++◌, codes, map, length, Option, Some, inl, inr, ⊎_elim, refl, sym, ap, subst, ◌∙◌, arith, if◌then◌else◌, append-nil}
 use Rattle.std.specs.Cmp.Lexicographic.{slice_cmp}
 use Rattle.std.specs.List.{flat_map}
 use Rattle.std.specs.Ordering.{is_lt, nat_cmp}
 use Rattle.std.specs.declared.cmp.Ordering.{Ordering}
 use Rattle.std.specs.declared.cmp.Ordering.TheVariants.{Equal, Greater, Less}
 use Rattle.std.specs.Option.{IsSome, option_and_then, option_map}
-use Rattle.std.proofs.lemmas.Bool.{and_parts, cases_Bool, not-true, cond-false, cond-true}
+use Rattle.std.proofs.lemmas.Bool.{and_parts, cases_Bool, cond-false, cond-true}
 use Rattle.std.proofs.lemmas.List.Elements.{All-nil}
 use Rattle.std.proofs.lemmas.List.Sums.{AllPass-from_list_all}
 use Rattle.std.proofs.lemmas.Option.{none-some, same_Some}
-use Rattle.std.specs.Prelude.{◌==◌}
-use Rattle.std.proofs.lemmas.Bool.Decides.{nat_tests}
-use Rattle.std.proofs.lemmas.Str.{IsUtf8-from_is_utf8}
 use Rattle.text_sets.specs.Sets.{AreTold, In, SameMembers}
-use Rattle.rel_io.specs.Texts.{IsWordText, is_readable}
 use Rattle.obo_tags.specs.Table.{shape_of, tags_of}
 use Rattle.obo_tags.specs.declared.kind.FrameKind.TheVariants as frames
 use Rattle.obo_tags.specs.declared.kind.ValueShape.TheVariants as shapes
@@ -46,7 +42,8 @@ use Rattle.rel_io.proofs.Texts.{word_from_readable}
 use Rattle.text_sets.proofs.PartLemmas.{each_some-items, each_some-parts, each_some-some, option_and_then_some, option_map_some, option_or_some}
 use Rattle.text_sets.proofs.SortedLemmas.{by_text_total, sorted_by-each, sorted_by-is, sorted_by-only}
 use Rattle.obo_notes.specs.Context.{Agree, Reading, Writing}
-use Rattle.obo_statements.specs.Statements.{Group, as_id, class_id, class_named, class_read, clauses_with, expr_pair, group_clauses, group_expr, group_in_body, group_meaning, group_operands, group_tag, is_class, operands_in, other_expr, intersection, operand_read, operand_value, restriction_words, union}
+use Rattle.obo_statements.specs.Statements.{Group, as_id, class_id, class_named, class_read, clauses_with, expr_pair, group_clauses, group_expr, group_in_body, group_operands, group_tag, is_class, operands_in, other_expr, intersection, operand_plainly, operand_value, restriction_words, union}
+use Rattle.obo_statements.proofs.PlainMeaning.{plain_group}
 use Rattle.obo_notes.proofs.PartCovers.{some_value}
 use Rattle.obo_statements.proofs.StatementLaws.{both_orders, class_id-back, class_id-readable, class_text, is_class-back, nothing_text, thing_text, words_back}
 use Rattle.obo_notes.proofs.Guards.{same_bytes, where_true_some}
@@ -106,12 +103,12 @@ same_operand one other fits also same =
     ap (λ (c : Clause). c.value) clauses
 
 module _ (reading : Reading) (writing : Writing) (agree : Agree reading writing) (group : Group) where
-  id_value-back : (one : ClassExpr) (v : Value) → as_id (class_id writing one) ≡ Some v → operand_read reading group v ≡ Some one
+  id_value-back : (one : ClassExpr) (v : Value) → as_id (class_id writing one) ≡ Some v → operand_plainly reading group v ≡ Some one
   id_value-back one v is =
       let id = option_map_some value.Id (class_id writing one) v is in
-      subst (λ w. operand_read reading group w ≡ Some one) id.2 (read_id group id.0 one (class_id-back reading writing agree [] one id.0 id.1))
+      subst (λ w. operand_plainly reading group w ≡ Some one) id.2 (read_id group id.0 one (class_id-back reading writing agree [] one id.0 id.1))
     where
-      read_id : (g : Group) (id : List ℕ) (one : ClassExpr) → class_read reading id ≡ one → operand_read reading g (value.Id id) ≡ Some one
+      read_id : (g : Group) (id : List ℕ) (one : ClassExpr) → class_read reading id ≡ one → operand_plainly reading g (value.Id id) ≡ Some one
       read_id intersection id one same = ap Some same
       read_id union id one same = ap Some same
 
@@ -120,31 +117,31 @@ module _ (reading : Reading) (writing : Writing) (agree : Agree reading writing)
       let id = option_map_some value.Id (class_id writing one) v is in
       subst (FitsShape shapes.IdOrPair) id.2 (word_from_readable id.0 (class_id-readable reading writing agree [] one id.0 id.1))
 
-  operand-back : (g : Group) → ((one : ClassExpr) (v : Value) → as_id (class_id writing one) ≡ Some v → operand_read reading g v ≡ Some one) → (one : ClassExpr) (v : Value) → operand_value writing g one ≡ Some v
-      → (operand_read reading g v ≡ Some one) × FitsShape shapes.IdOrPair v
+  operand-back : (g : Group) → ((one : ClassExpr) (v : Value) → as_id (class_id writing one) ≡ Some v → operand_plainly reading g v ≡ Some one) → (one : ClassExpr) (v : Value) → operand_value writing g one ≡ Some v
+      → (operand_plainly reading g v ≡ Some one) × FitsShape shapes.IdOrPair v
   operand-back union ids one v is = (ids one v is, id_fits one v is)
   operand-back intersection ids one v is =
       ⊎_elim
       (λ id. (ids one v id, id_fits one v id))
       (λ pair.
       let words = words_back reading writing agree [] one v pair in
-      subst (λ w. (operand_read reading intersection w ≡ Some one) × FitsShape shapes.IdOrPair w) words.value_is
+      subst (λ w. (operand_plainly reading intersection w ≡ Some one) × FitsShape shapes.IdOrPair w) words.value_is
       (ap Some words.same, (word_from_readable words.role words.role_fits, word_from_readable words.filler words.filler_fits)))
       (option_or_some (as_id (class_id writing one)) (restriction_words writing one) v is)
 
   -- ---- the clauses of a group, read
 
-  pub read_clauses : (qualifiers : List Qualifier) (values : List Value) → each_some (λ (clause : Clause). operand_read reading group clause.value) (group_clauses group qualifiers values) ≡ each_some (operand_read reading group) values
+  pub read_clauses : (qualifiers : List Qualifier) (values : List Value) → each_some (λ (clause : Clause). operand_plainly reading group clause.value) (group_clauses group qualifiers values) ≡ each_some (operand_plainly reading group) values
   read_clauses qualifiers [] = refl
-  read_clauses qualifiers (v ∷ values) = ap (λ o. option_and_then (λ y. option_map (λ ys. y ∷ ys) o) (operand_read reading group v)) (read_more values)
+  read_clauses qualifiers (v ∷ values) = ap (λ o. option_and_then (λ y. option_map (λ ys. y ∷ ys) o) (operand_plainly reading group v)) (read_more values)
     where
-      read_more : (vs : List Value) → each_some (λ (clause : Clause). operand_read reading group clause.value) (map (λ w. let c : Clause = record { tag = group_tag group; value = w; qualifiers = [] } in c) vs) ≡ each_some (operand_read reading group) vs
+      read_more : (vs : List Value) → each_some (λ (clause : Clause). operand_plainly reading group clause.value) (map (λ w. let c : Clause = record { tag = group_tag group; value = w; qualifiers = [] } in c) vs) ≡ each_some (operand_plainly reading group) vs
       read_more [] = refl
-      read_more (w ∷ vs) = ap (λ o. option_and_then (λ y. option_map (λ ys. y ∷ ys) o) (operand_read reading group w)) (read_more vs)
+      read_more (w ∷ vs) = ap (λ o. option_and_then (λ y. option_map (λ ys. y ∷ ys) o) (operand_plainly reading group w)) (read_more vs)
 
   -- the operands are read, in some order
   pub operands_read : (operands : List ClassExpr) (values : List Value) → each_some (operand_value writing group) operands ≡ Some values
-      → (found : List ClassExpr) × (each_some (operand_read reading group) (sorted_by value_text values) ≡ Some found) × SameMembers found operands
+      → (found : List ClassExpr) × (each_some (operand_plainly reading group) (sorted_by value_text values) ≡ Some found) × SameMembers found operands
   operands_read operands values is =
       let sorted = sorted_by value_text values in
       let back = operand-back group id_value-back in
@@ -154,19 +151,19 @@ module _ (reading : Reading) (writing : Writing) (agree : Agree reading writing)
       let a = each_some-parts (operand_value writing group) operands values is v p in
       let b = each_some-parts (operand_value writing group) operands values is w q in
       same_operand v w (back a.0 v a.2).1 (back b.0 w b.2).1 same in
-      let found = some_value (each_some (operand_read reading group) sorted) (each_some-some (operand_read reading group) sorted (λ v here.
+      let found = some_value (each_some (operand_plainly reading group) sorted) (each_some-some (operand_plainly reading group) sorted (λ v here.
       let c = from_value v here in subst (λ (o : Option ClassExpr). IsSome o) (sym (back c.0 v c.2).0) refl)) in (
         found.0,
         found.1,
         (λ c. (
           (λ here.
-              let v = each_some-parts (operand_read reading group) sorted found.0 found.1 c here in
+              let v = each_some-parts (operand_plainly reading group) sorted found.0 found.1 c here in
               let d = from_value v.0 v.1 in
               subst (λ e. In e operands) (same_Some d.0 c (sym (back d.0 v.0 d.2).0 ∙ v.2)) d.1),
           (λ here.
               let v = each_some-items (operand_value writing group) operands values is c here in
               let among = sorted_by-each value_text values told v.0 v.1 in
-              let e = each_some-items (operand_read reading group) sorted found.0 found.1 v.0 among in
+              let e = each_some-items (operand_plainly reading group) sorted found.0 found.1 v.0 among in
               subst (λ z. In z found.0) (same_Some e.0 c (sym e.2 ∙ (back c v.0 v.2).0)) e.1),
         )),
       )
@@ -253,7 +250,7 @@ module _ (reading : Reading) (writing : Writing) (agree : Agree reading writing)
       none_more [] = refl
       none_more (w ∷ vs) = none_more vs
 
-  some_member : (operands : List ClassExpr) (sorted : List Value) (found : List ClassExpr) → 0 < length operands → each_some (operand_read reading group) sorted ≡ Some found → SameMembers found operands → 0 < length sorted
+  some_member : (operands : List ClassExpr) (sorted : List Value) (found : List ClassExpr) → 0 < length operands → each_some (operand_plainly reading group) sorted ≡ Some found → SameMembers found operands → 0 < length sorted
   some_member [] sorted found some is same = absurd (omega arith)
   some_member (c ∷ operands) [] found some is same = absurd (subst (In c) (sym (same_Some [] found is)) ((same c).1 (inl refl)))
   some_member (c ∷ operands) (v ∷ sorted) found some is same = omega arith
@@ -266,8 +263,7 @@ module _ (reading : Reading) (writing : Writing) (agree : Agree reading writing)
       (cases_Bool (is_class x c))
 
   pub group_reads_back : (x : List ℕ) (c d : ClassExpr) (sides : List Side) (clauses : List Clause) → in_order (expr_text c) (expr_text d) ≡ true → IsRising (body.Equiv c d) → Rises side_text sides
-      → group_in_body writing x group sides (body.Equiv c d) ≡ Some clauses → group_meaning reading x group clauses ≡ Some (record { body = body.Equiv c d; sides = sides })
-  unfolding group_meaning
+      → group_in_body writing x group sides (body.Equiv c d) ≡ Some clauses → plain_group reading x group clauses ≡ Some (record { body = body.Equiv c d; sides = sides })
   group_reads_back x c d sides clauses ordered rising rises is =
       let qs = option_and_then_some (λ qualifiers. option_and_then (clauses_with writing group qualifiers) (other_expr x c d)) (qualifiers_of sides) clauses is in
       let whole = option_and_then_some (clauses_with writing group qs.0) (other_expr x c d) clauses qs.2 in
@@ -284,7 +280,7 @@ module _ (reading : Reading) (writing : Writing) (agree : Agree reading writing)
       let said : expr_pair (class_named x) (group_expr group (sorted_by expr_text read.0)) ≡ body.Equiv c d =
       ap (λ o. expr_pair (class_named x) (group_expr group o)) ops ∙ ap (expr_pair (class_named x)) same_whole ∙ pair_of_group x c d whole.0 whole.1 ordered apart in
       let sides_are = ap sorted_sides (all_sides qs.0 sorted some) ∙ same_sides sides [] sides qs.0 rises (Splits-nothing sides) qs.1 in
-      subst (λ cs. group_meaning reading x group cs ≡ Some (record { body = body.Equiv c d; sides = sides })) values.2
+      subst (λ cs. plain_group reading x group cs ≡ Some (record { body = body.Equiv c d; sides = sides })) values.2
       (ap (option_map (λ found. let a : Axiom = record { body = expr_pair (class_named x) (group_expr group (sorted_by expr_text found)); sides = sorted_sides (flat_map (λ (clause : Clause). map side_of_qualifier clause.qualifiers) (group_clauses group qs.0 sorted)) } in a)) each
       ∙ (λ i. Some (record { body = said i; sides = sides_are i })))
 
@@ -315,8 +311,7 @@ same_flat_map f xs ys same c = (
 
 module _ (reading : Reading) (writing : Writing) (agree : Agree reading writing) (group : Group) where
   pub group_reads_set : (x : List ℕ) (c d : ClassExpr) (sides : List Side) (clauses others : List Clause) → in_order (expr_text c) (expr_text d) ≡ true → IsRising reading writing agree group (body.Equiv c d) → Rises side_text sides
-      → group_in_body writing x group sides (body.Equiv c d) ≡ Some clauses → SameMembers others clauses → group_meaning reading x group others ≡ Some (record { body = body.Equiv c d; sides = sides })
-  unfolding group_meaning
+      → group_in_body writing x group sides (body.Equiv c d) ≡ Some clauses → SameMembers others clauses → plain_group reading x group others ≡ Some (record { body = body.Equiv c d; sides = sides })
   group_reads_set x c d sides clauses others ordered rising rises is same =
       let qs = option_and_then_some (λ qualifiers. option_and_then (clauses_with writing group qualifiers) (other_expr x c d)) (qualifiers_of sides) clauses is in
       let whole = option_and_then_some (clauses_with writing group qs.0) (other_expr x c d) clauses qs.2 in
@@ -328,7 +323,7 @@ module _ (reading : Reading) (writing : Writing) (agree : Agree reading writing)
       let some = some_member reading writing agree group operands.0 sorted read.0 proper.1 read.1 read.2 in
       let each = read_clauses reading writing agree group qs.0 sorted ∙ read.1 in
       let members : SameMembers others (group_clauses group qs.0 sorted) = subst (λ cs. SameMembers others cs) (sym values.2) same in
-      let again = each_some-set (λ (clause : Clause). operand_read reading group clause.value) others (group_clauses group qs.0 sorted) read.0 members each in
+      let again = each_some-set (λ (clause : Clause). operand_plainly reading group clause.value) others (group_clauses group qs.0 sorted) read.0 members each in
       let same_operands : SameMembers again.0 operands.0 = λ e. ((λ h. (read.2 e).0 ((again.2 e).0 h)), (λ h. (again.2 e).1 ((read.2 e).1 h))) in
       let ops : sorted_by expr_text again.0 ≡ operands.0 = sorted_by-is expr_text again.0 operands.0 proper.0 same_operands in
       let same_whole = whole_of group whole.0 operands.0 operands.1 in

@@ -1,3 +1,4 @@
 pub mod GroupLaws
+pub mod PlainMeaning
 pub mod Rising
 pub mod StatementLaws

@@ -24,7 +24,7 @@ use Rattle.owl_axioms.specs.declared.expr.ClassExpr.TheFolds.{fold-roll-ClassExp
 use Rattle.owl_axioms.specs.declared.expr.ClassExpr.TheViews.{out-ClassExpr, roll-ClassExpr, roll-out-ClassExpr}
 use Rattle.text_sets.proofs.PartLemmas.{option_and_then_some, option_map_some}
 use Rattle.obo_notes.specs.Context.{Agree, Reading, Writing, where_true}
-use Rattle.obo_statements.specs.Statements.{Character, Statement, as_id, asymmetric, below_class, below_role, chain, character_body, disjoint_class, disjoint_role, functional, has_character, has_domain, has_range, inverse_functional, member, reflexive, related, restricted, restriction, restriction_words, same_role, symmetric, transitive, words_of, class_id, class_iri, class_named, class_read, disjoint_classes, inverse_role, is_class, other_class, other_of, over, pair_of, same_class, same_classes, stated, value_stating}
+use Rattle.obo_statements.specs.Statements.{Character, Statement, as_id, asymmetric, below_class, below_role, chain, character_body, disjoint_class, disjoint_role, functional, has_character, has_domain, has_range, inverse_functional, member, reflexive, related, restricted, restriction, restriction_words, same_role, symmetric, transitive, words_of, class_id, class_iri, class_named, class_read, disjoint_classes, inverse_role, is_class, other_class, other_of, over, pair_of, same_class, same_classes, stated_plainly, value_plainly}
 use Rattle.obo_notes.proofs.Guards.{same_bytes, where_true_some}
 
 -- ---- classes and their IRIs
@@ -138,14 +138,14 @@ module _ (reading : Reading) (writing : Writing) (agree : Agree reading writing)
   class_id-readable one id is = let found = option_and_then_some writing.id (class_iri one) id is in (agree.ids found.0 id found.2).0
 
   Says : Statement → Body → Value → Type 0
-  Says statement one v = stated reading x statement v ≡ Some one
+  Says statement one v = stated_plainly reading x statement v ≡ Some one
 
-  below-back : (c d : ClassExpr) (v : Value) → value_stating writing x below_class (body.Sub c d) ≡ Some v → stated reading x below_class v ≡ Some (body.Sub c d)
-  unfolding value_stating stated
+  below-back : (c d : ClassExpr) (v : Value) → value_plainly writing x below_class (body.Sub c d) ≡ Some v → stated_plainly reading x below_class v ≡ Some (body.Sub c d)
+  unfolding value_plainly stated_plainly
   below-back c d v is =
       let found = where_true_some (is_class x c) (as_id (class_id writing d)) v is in
       let id = id_back (class_id writing d) v found.1 in
-      subst (λ w. stated reading x below_class w ≡ Some (body.Sub c d)) id.2
+      subst (λ w. stated_plainly reading x below_class w ≡ Some (body.Sub c d)) id.2
       (λ i. Some (body.Sub (is_class-back x c found.0 i) (class_id-back d id.0 id.1 i)))
 
   same_class-back : (make : List ℕ → List ℕ → Body) (both : ClassExpr → ClassExpr → Body) → ((a b : List ℕ) → make a b ≡ both (class_named a) (class_named b)) → (c d : ClassExpr) (id : List ℕ)
@@ -158,39 +158,39 @@ module _ (reading : Reading) (writing : Writing) (agree : Agree reading writing)
       ap (pair_of make x) (agree.ids other.0 id other.2).1 ∙ pair_back make x other.0 one.0 two.0 two.2 texts ∙ is_both one.0 two.0
       ∙ (λ i. both (class_iri-back c one.0 one.1 i) (class_iri-back d two.0 two.1 i))
 
-  equivalent-back : (c d : ClassExpr) (v : Value) → in_order (expr_text c) (expr_text d) ≡ true → value_stating writing x same_class (body.Equiv c d) ≡ Some v → stated reading x same_class v ≡ Some (body.Equiv c d)
-  unfolding value_stating stated
+  equivalent-back : (c d : ClassExpr) (v : Value) → in_order (expr_text c) (expr_text d) ≡ true → value_plainly writing x same_class (body.Equiv c d) ≡ Some v → stated_plainly reading x same_class v ≡ Some (body.Equiv c d)
+  unfolding value_plainly stated_plainly
   equivalent-back c d v ordered is =
       let other = option_and_then_some (λ one. as_id (writing.id one)) (other_class x c d) v is in
       let id = id_back (writing.id other.0) v other.2 in
       let both : option_and_then writing.id (other_class x c d) ≡ Some id.0 = ap (option_and_then writing.id) other.1 ∙ id.1 in
-      subst (λ w. stated reading x same_class w ≡ Some (body.Equiv c d)) id.2
+      subst (λ w. stated_plainly reading x same_class w ≡ Some (body.Equiv c d)) id.2
       (ap Some (same_class-back same_classes body.Equiv (λ a b. refl) c d id.0 ordered both))
 
-  inverse-back : (r s : List ℕ) (v : Value) → in_order (iri_text r) (iri_text s) ≡ true → value_stating writing x inverse_role (body.Inverse r s) ≡ Some v → stated reading x inverse_role v ≡ Some (body.Inverse r s)
-  unfolding value_stating stated
+  inverse-back : (r s : List ℕ) (v : Value) → in_order (iri_text r) (iri_text s) ≡ true → value_plainly writing x inverse_role (body.Inverse r s) ≡ Some v → stated_plainly reading x inverse_role v ≡ Some (body.Inverse r s)
+  unfolding value_plainly stated_plainly
   inverse-back r s v ordered is =
       let other = option_and_then_some (λ one. as_id (writing.role_id one)) (other_of x r s) v is in
       let id = id_back (writing.role_id other.0) v other.2 in
-      subst (λ w. stated reading x inverse_role w ≡ Some (body.Inverse r s)) id.2
+      subst (λ w. stated_plainly reading x inverse_role w ≡ Some (body.Inverse r s)) id.2
       (ap Some (ap (pair_of body.Inverse x) (agree.role_ids other.0 id.0 id.1).1 ∙ pair_back body.Inverse x other.0 r s other.1 ordered))
 
-  over-back : (r s t : List ℕ) (v : Value) → value_stating writing x over (body.Chain r s t) ≡ Some v → stated reading x over v ≡ Some (body.Chain r s t)
-  unfolding value_stating stated
+  over-back : (r s t : List ℕ) (v : Value) → value_plainly writing x over (body.Chain r s t) ≡ Some v → stated_plainly reading x over v ≡ Some (body.Chain r s t)
+  unfolding value_plainly stated_plainly
   over-back r s t v is =
       let found = where_true_some (bytes_eq x r && bytes_eq x t) (as_id (writing.role_id s)) v is in
       let tests = and_parts (bytes_eq x r) (bytes_eq x t) found.0 in
       let id = id_back (writing.role_id s) v found.1 in
-      subst (λ w. stated reading x over w ≡ Some (body.Chain r s t)) id.2
+      subst (λ w. stated_plainly reading x over w ≡ Some (body.Chain r s t)) id.2
       (λ i. Some (body.Chain (same_bytes x r tests.0 i) ((agree.role_ids s id.0 id.1).1 i) (same_bytes x t tests.1 i)))
 
-  chain-back : (r s t : List ℕ) (v : Value) → value_stating writing x chain (body.Chain r s t) ≡ Some v → stated reading x chain v ≡ Some (body.Chain r s t)
-  unfolding value_stating stated
+  chain-back : (r s t : List ℕ) (v : Value) → value_plainly writing x chain (body.Chain r s t) ≡ Some v → stated_plainly reading x chain v ≡ Some (body.Chain r s t)
+  unfolding value_plainly stated_plainly
   chain-back r s t v is =
       let found = where_true_some (bytes_eq x t) (option_and_then (λ one. option_map (λ two. value.Pair one two) (writing.role_id s)) (writing.role_id r)) v is in
       let one = option_and_then_some (λ one. option_map (λ two. value.Pair one two) (writing.role_id s)) (writing.role_id r) v found.1 in
       let two = option_map_some (λ two. value.Pair one.0 two) (writing.role_id s) v one.2 in
-      subst (λ w. stated reading x chain w ≡ Some (body.Chain r s t)) two.2
+      subst (λ w. stated_plainly reading x chain w ≡ Some (body.Chain r s t)) two.2
       (λ i. Some (body.Chain ((agree.role_ids r one.0 one.1).1 i) ((agree.role_ids s two.0 two.1).1 i) (same_bytes x t found.0 i)))
 
   pub record Words (d : ClassExpr) (v : Value) : Type 0 where
@@ -220,29 +220,29 @@ module _ (reading : Reading) (writing : Writing) (agree : Agree reading writing)
   unfolding restriction_words
   words_back d v is = subst (λ e. Words e v) (roll-out-ClassExpr d) (words_at (out-ClassExpr d) v is)
 
-  restricted-back : (c d : ClassExpr) (v : Value) → value_stating writing x restricted (body.Sub c d) ≡ Some v → stated reading x restricted v ≡ Some (body.Sub c d)
-  unfolding value_stating stated
+  restricted-back : (c d : ClassExpr) (v : Value) → value_plainly writing x restricted (body.Sub c d) ≡ Some v → stated_plainly reading x restricted v ≡ Some (body.Sub c d)
+  unfolding value_plainly stated_plainly
   restricted-back c d v is =
       let found = where_true_some (is_class x c) (restriction_words writing d) v is in
       let words = words_back d v found.1 in
-      subst (λ w. stated reading x restricted w ≡ Some (body.Sub c d)) words.value_is
+      subst (λ w. stated_plainly reading x restricted w ≡ Some (body.Sub c d)) words.value_is
       (λ i. Some (body.Sub (is_class-back x c found.0 i) (words.same i)))
 
-  disjoint-back : (c d : ClassExpr) (v : Value) → in_order (expr_text c) (expr_text d) ≡ true → value_stating writing x disjoint_class (body.Disjoint c d) ≡ Some v → stated reading x disjoint_class v ≡ Some (body.Disjoint c d)
-  unfolding value_stating stated
+  disjoint-back : (c d : ClassExpr) (v : Value) → in_order (expr_text c) (expr_text d) ≡ true → value_plainly writing x disjoint_class (body.Disjoint c d) ≡ Some v → stated_plainly reading x disjoint_class v ≡ Some (body.Disjoint c d)
+  unfolding value_plainly stated_plainly
   disjoint-back c d v ordered is =
       let other = option_and_then_some (λ one. as_id (writing.id one)) (other_class x c d) v is in
       let id = id_back (writing.id other.0) v other.2 in
       let both : option_and_then writing.id (other_class x c d) ≡ Some id.0 = ap (option_and_then writing.id) other.1 ∙ id.1 in
-      subst (λ w. stated reading x disjoint_class w ≡ Some (body.Disjoint c d)) id.2
+      subst (λ w. stated_plainly reading x disjoint_class w ≡ Some (body.Disjoint c d)) id.2
       (ap Some (same_class-back disjoint_classes body.Disjoint (λ a b. refl) c d id.0 ordered both))
 
-  below_role-back : (r s : List ℕ) (v : Value) → value_stating writing x below_role (body.SubRole r s) ≡ Some v → stated reading x below_role v ≡ Some (body.SubRole r s)
-  unfolding value_stating stated
+  below_role-back : (r s : List ℕ) (v : Value) → value_plainly writing x below_role (body.SubRole r s) ≡ Some v → stated_plainly reading x below_role v ≡ Some (body.SubRole r s)
+  unfolding value_plainly stated_plainly
   below_role-back r s v is =
       let found = where_true_some (bytes_eq x r) (as_id (writing.role_id s)) v is in
       let id = id_back (writing.role_id s) v found.1 in
-      subst (λ w. stated reading x below_role w ≡ Some (body.SubRole r s)) id.2
+      subst (λ w. stated_plainly reading x below_role w ≡ Some (body.SubRole r s)) id.2
       (λ i. Some (body.SubRole (same_bytes x r found.0 i) ((agree.role_ids s id.0 id.1).1 i)))
 
   -- a pair of relations, whatever is said of them
@@ -253,63 +253,63 @@ module _ (reading : Reading) (writing : Writing) (agree : Agree reading writing)
       let id = id_back (writing.role_id other.0) v other.2 in
       (id.0, ap (pair_of make x) (agree.role_ids other.0 id.0 id.1).1 ∙ pair_back make x other.0 r s other.1 ordered, id.2)
 
-  same_role-back : (r s : List ℕ) (v : Value) → in_order (iri_text r) (iri_text s) ≡ true → value_stating writing x same_role (body.EquivRoles r s) ≡ Some v → stated reading x same_role v ≡ Some (body.EquivRoles r s)
-  unfolding value_stating stated
+  same_role-back : (r s : List ℕ) (v : Value) → in_order (iri_text r) (iri_text s) ≡ true → value_plainly writing x same_role (body.EquivRoles r s) ≡ Some v → stated_plainly reading x same_role v ≡ Some (body.EquivRoles r s)
+  unfolding value_plainly stated_plainly
   same_role-back r s v ordered is =
       let pair = role_pair-back body.EquivRoles r s v ordered is in
-      subst (λ w. stated reading x same_role w ≡ Some (body.EquivRoles r s)) pair.2 (ap Some pair.1)
+      subst (λ w. stated_plainly reading x same_role w ≡ Some (body.EquivRoles r s)) pair.2 (ap Some pair.1)
 
-  disjoint_role-back : (r s : List ℕ) (v : Value) → in_order (iri_text r) (iri_text s) ≡ true → value_stating writing x disjoint_role (body.DisjointRoles r s) ≡ Some v → stated reading x disjoint_role v ≡ Some (body.DisjointRoles r s)
-  unfolding value_stating stated
+  disjoint_role-back : (r s : List ℕ) (v : Value) → in_order (iri_text r) (iri_text s) ≡ true → value_plainly writing x disjoint_role (body.DisjointRoles r s) ≡ Some v → stated_plainly reading x disjoint_role v ≡ Some (body.DisjointRoles r s)
+  unfolding value_plainly stated_plainly
   disjoint_role-back r s v ordered is =
       let pair = role_pair-back body.DisjointRoles r s v ordered is in
-      subst (λ w. stated reading x disjoint_role w ≡ Some (body.DisjointRoles r s)) pair.2 (ap Some pair.1)
+      subst (λ w. stated_plainly reading x disjoint_role w ≡ Some (body.DisjointRoles r s)) pair.2 (ap Some pair.1)
 
-  domain-back : (r : List ℕ) (c : ClassExpr) (v : Value) → value_stating writing x has_domain (body.Domain r c) ≡ Some v → stated reading x has_domain v ≡ Some (body.Domain r c)
-  unfolding value_stating stated
+  domain-back : (r : List ℕ) (c : ClassExpr) (v : Value) → value_plainly writing x has_domain (body.Domain r c) ≡ Some v → stated_plainly reading x has_domain v ≡ Some (body.Domain r c)
+  unfolding value_plainly stated_plainly
   domain-back r c v is =
       let found = where_true_some (bytes_eq x r) (as_id (class_id writing c)) v is in
       let id = id_back (class_id writing c) v found.1 in
-      subst (λ w. stated reading x has_domain w ≡ Some (body.Domain r c)) id.2
+      subst (λ w. stated_plainly reading x has_domain w ≡ Some (body.Domain r c)) id.2
       (λ i. Some (body.Domain (same_bytes x r found.0 i) (class_id-back c id.0 id.1 i)))
 
-  range-back : (r : List ℕ) (c : ClassExpr) (v : Value) → value_stating writing x has_range (body.Range r c) ≡ Some v → stated reading x has_range v ≡ Some (body.Range r c)
-  unfolding value_stating stated
+  range-back : (r : List ℕ) (c : ClassExpr) (v : Value) → value_plainly writing x has_range (body.Range r c) ≡ Some v → stated_plainly reading x has_range v ≡ Some (body.Range r c)
+  unfolding value_plainly stated_plainly
   range-back r c v is =
       let found = where_true_some (bytes_eq x r) (as_id (class_id writing c)) v is in
       let id = id_back (class_id writing c) v found.1 in
-      subst (λ w. stated reading x has_range w ≡ Some (body.Range r c)) id.2
+      subst (λ w. stated_plainly reading x has_range w ≡ Some (body.Range r c)) id.2
       (λ i. Some (body.Range (same_bytes x r found.0 i) (class_id-back c id.0 id.1 i)))
 
-  member-back : (c : ClassExpr) (j : List ℕ) (v : Value) → value_stating writing x member (body.ClassAssertion c j) ≡ Some v → stated reading x member v ≡ Some (body.ClassAssertion c j)
-  unfolding value_stating stated
+  member-back : (c : ClassExpr) (j : List ℕ) (v : Value) → value_plainly writing x member (body.ClassAssertion c j) ≡ Some v → stated_plainly reading x member v ≡ Some (body.ClassAssertion c j)
+  unfolding value_plainly stated_plainly
   member-back c j v is =
       let found = where_true_some (bytes_eq x j) (as_id (class_id writing c)) v is in
       let id = id_back (class_id writing c) v found.1 in
-      subst (λ w. stated reading x member w ≡ Some (body.ClassAssertion c j)) id.2
+      subst (λ w. stated_plainly reading x member w ≡ Some (body.ClassAssertion c j)) id.2
       (λ i. Some (body.ClassAssertion (class_id-back c id.0 id.1 i) (same_bytes x j found.0 i)))
 
-  related-back : (r a b : List ℕ) (v : Value) → value_stating writing x related (body.RoleAssertion r a b) ≡ Some v → stated reading x related v ≡ Some (body.RoleAssertion r a b)
-  unfolding value_stating stated
+  related-back : (r a b : List ℕ) (v : Value) → value_plainly writing x related (body.RoleAssertion r a b) ≡ Some v → stated_plainly reading x related v ≡ Some (body.RoleAssertion r a b)
+  unfolding value_plainly stated_plainly
   related-back r a b v is =
       let found = where_true_some (bytes_eq x a) (option_and_then (λ role. option_map (λ id. value.Pair role id) (writing.id b)) (writing.role_id r)) v is in
       let role = option_and_then_some (λ role. option_map (λ id. value.Pair role id) (writing.id b)) (writing.role_id r) v found.1 in
       let id = option_map_some (λ id. value.Pair role.0 id) (writing.id b) v role.2 in
-      subst (λ w. stated reading x related w ≡ Some (body.RoleAssertion r a b)) id.2
+      subst (λ w. stated_plainly reading x related w ≡ Some (body.RoleAssertion r a b)) id.2
       (λ i. Some (body.RoleAssertion ((agree.role_ids r role.0 role.1).1 i) (same_bytes x a found.0 i) ((agree.ids b id.0 id.1).1 i)))
 
   -- a character of a relation
-  character-back : (character : Character) (r : List ℕ) (v : Value) → where_true (bytes_eq x r) (Some (value.Bool true)) ≡ Some v → stated reading x (has_character character) v ≡ Some (character_body character r)
-  unfolding stated
+  character-back : (character : Character) (r : List ℕ) (v : Value) → where_true (bytes_eq x r) (Some (value.Bool true)) ≡ Some v → stated_plainly reading x (has_character character) v ≡ Some (character_body character r)
+  unfolding stated_plainly
   character-back character r v is =
       let found = where_true_some (bytes_eq x r) (Some (value.Bool true)) v is in
-      subst (λ w. stated reading x (has_character character) w ≡ Some (character_body character r)) (same_Some (value.Bool true) v found.1)
+      subst (λ w. stated_plainly reading x (has_character character) w ≡ Some (character_body character r)) (same_Some (value.Bool true) v found.1)
       (ap (λ y. Some (character_body character y)) (same_bytes x r found.0))
 
   -- ---- all statements
 
-  pub statement-back : (statement : Statement) (one : Body) (v : Value) → is_proper_body one ≡ true → value_stating writing x statement one ≡ Some v → stated reading x statement v ≡ Some one
-  unfolding value_stating is_proper_body is_proper_pair is_proper_role_pair
+  pub statement-back : (statement : Statement) (one : Body) (v : Value) → is_proper_body one ≡ true → value_plainly writing x statement one ≡ Some v → stated_plainly reading x statement v ≡ Some one
+  unfolding value_plainly is_proper_body is_proper_pair is_proper_role_pair
   statement-back below_class (body.Sub c d) v proper is = below-back c d v is
   statement-back restricted (body.Sub c d) v proper is = restricted-back c d v is
   statement-back same_class (body.Equiv c d) v proper is = equivalent-back c d v (and_parts _ _ proper).1 is

@@ -1,11 +1,12 @@
 -- Logical clauses: what a clause says of the entity of its frame, and the clause that says it; groups of clauses of a Term.
 -- (OBO Flat File Format 1.4, its mapping to OWL 2, in our own profile.)
-use Rattle.std.specs.Prelude.{ℕ, Bool, true, false, ◌&&◌, List, [], ◌∷◌, ◌++◌, codes, if◌then◌else◌, Option, None, Some, map}
+use Rattle.std.specs.Prelude.{ℕ, Bool, true, false, not, ◌&&◌, List, [], ◌∷◌, ◌++◌, codes, if◌then◌else◌, Option, None, Some, map, filter}
 use Rattle.std.specs.Option.{option_and_then, option_map, option_map_or, option_or}
+use Rattle.std.specs.List.{flat_map}
 use Rattle.std.specs.Str.{bytes_eq}
 use Rattle.obo_tags.specs.declared.kind.FrameKind.{FrameKind}
 use Rattle.obo_tags.specs.declared.kind.FrameKind.TheVariants.{Header, Instance, Term, Typedef}
-use Rattle.clause_printer.specs.Printing.{value_text}
+use Rattle.clause_printer.specs.Printing.{qualifier_text, value_text}
 use Rattle.obo_clause.specs.declared.clause.Clause.{Clause}
 use Rattle.obo_clause.specs.declared.clause.Qualifier.{Qualifier}
 use Rattle.obo_clause.specs.declared.clause.Value.{Value}
@@ -25,7 +26,7 @@ use Rattle.owl_axioms.specs.declared.name.Name.{Name}
 use Rattle.text_sets.specs.Parts.{each_some, first_some}
 use Rattle.text_sets.specs.Sorted.{sorted_by}
 use Rattle.obo_notes.specs.Context.{Reading, Writing, where_true}
-use Rattle.obo_notes.specs.Keys.{side_of_qualifier}
+use Rattle.obo_notes.specs.Keys.{is_reserved_key, qualifier_of, side_of_qualifier}
 use Rattle.obo_notes.specs.Notes.{qualifiers_of, sorted_sides}
 
 -- ---- classes
@@ -104,24 +105,29 @@ pub data Statement : Type 0 where
   -- instance_of and relationship of an Instance
   member related : Statement
 
--- what a value says of the entity with this IRI
-unfoldable pub stated : Reading → List ℕ → Statement → Value → Option Body
-stated reading x below_class (value.Id id) = Some (body.Sub (class_named x) (class_read reading id))
-stated reading x restricted (value.Pair role id) = Some (body.Sub (class_named x) (restriction reading role id))
-stated reading x same_class (value.Id id) = Some (pair_of same_classes x (reading.iri id))
-stated reading x disjoint_class (value.Id id) = Some (pair_of disjoint_classes x (reading.iri id))
-stated reading x below_role (value.Id id) = Some (body.SubRole x (reading.role_iri id))
-stated reading x same_role (value.Id id) = Some (pair_of body.EquivRoles x (reading.role_iri id))
-stated reading x disjoint_role (value.Id id) = Some (pair_of body.DisjointRoles x (reading.role_iri id))
-stated reading x inverse_role (value.Id id) = Some (pair_of body.Inverse x (reading.role_iri id))
-stated reading x (has_character character) (value.Bool true) = Some (character_body character x)
-stated reading x has_domain (value.Id id) = Some (body.Domain x (class_read reading id))
-stated reading x has_range (value.Id id) = Some (body.Range x (class_read reading id))
-stated reading x over (value.Id id) = Some (body.Chain x (reading.role_iri id) x)
-stated reading x chain (value.Pair first second) = Some (body.Chain (reading.role_iri first) (reading.role_iri second) x)
-stated reading x member (value.Id id) = Some (body.ClassAssertion (class_read reading id) x)
-stated reading x related (value.Pair role id) = Some (body.RoleAssertion (reading.role_iri role) x (reading.iri id))
-stated reading x _ _ = None
+-- what a value says of the entity with this IRI, without qualifiers that have a meaning of their own
+unfoldable pub stated_plainly : Reading → List ℕ → Statement → Value → Option Body
+stated_plainly reading x below_class (value.Id id) = Some (body.Sub (class_named x) (class_read reading id))
+stated_plainly reading x restricted (value.Pair role id) = Some (body.Sub (class_named x) (restriction reading role id))
+stated_plainly reading x same_class (value.Id id) = Some (pair_of same_classes x (reading.iri id))
+stated_plainly reading x disjoint_class (value.Id id) = Some (pair_of disjoint_classes x (reading.iri id))
+stated_plainly reading x below_role (value.Id id) = Some (body.SubRole x (reading.role_iri id))
+stated_plainly reading x same_role (value.Id id) = Some (pair_of body.EquivRoles x (reading.role_iri id))
+stated_plainly reading x disjoint_role (value.Id id) = Some (pair_of body.DisjointRoles x (reading.role_iri id))
+stated_plainly reading x inverse_role (value.Id id) = Some (pair_of body.Inverse x (reading.role_iri id))
+stated_plainly reading x (has_character character) (value.Bool true) = Some (character_body character x)
+stated_plainly reading x has_domain (value.Id id) = Some (body.Domain x (class_read reading id))
+stated_plainly reading x has_range (value.Id id) = Some (body.Range x (class_read reading id))
+stated_plainly reading x over (value.Id id) = Some (body.Chain x (reading.role_iri id) x)
+stated_plainly reading x chain (value.Pair first second) = Some (body.Chain (reading.role_iri first) (reading.role_iri second) x)
+stated_plainly reading x member (value.Id id) = Some (body.ClassAssertion (class_read reading id) x)
+stated_plainly reading x related (value.Pair role id) = Some (body.RoleAssertion (reading.role_iri role) x (reading.iri id))
+stated_plainly reading x _ _ = None
+
+-- what a value says together with such qualifiers: with any of them, nothing yet
+unfoldable pub stated : Reading → List ℕ → Statement → List Qualifier → Value → Option Body
+stated reading x statement [] one = stated_plainly reading x statement one
+stated reading x statement (extra ∷ extras) one = None
 
 -- the other one of a pair
 abbrev pub other_of : List ℕ → List ℕ → List ℕ → Option (List ℕ)
@@ -134,33 +140,45 @@ other_class x c d = option_and_then (λ one. option_and_then (λ two. other_of x
 abbrev pub as_id : Option (List ℕ) → Option Value
 as_id id = option_map value.Id id
 
--- the value by which the entity with this IRI states what an axiom says
-unfoldable pub value_stating : Writing → List ℕ → Statement → Body → Option Value
-value_stating writing x below_class (body.Sub c d) = where_true (is_class x c) (as_id (class_id writing d))
-value_stating writing x restricted (body.Sub c d) = where_true (is_class x c) (restriction_words writing d)
-value_stating writing x same_class (body.Equiv c d) =
+-- the value by which the entity with this IRI states what an axiom says, without qualifiers that have a meaning of their own
+unfoldable pub value_plainly : Writing → List ℕ → Statement → Body → Option Value
+value_plainly writing x below_class (body.Sub c d) = where_true (is_class x c) (as_id (class_id writing d))
+value_plainly writing x restricted (body.Sub c d) = where_true (is_class x c) (restriction_words writing d)
+value_plainly writing x same_class (body.Equiv c d) =
     option_and_then (λ one. as_id (writing.id one)) (other_class x c d)
-value_stating writing x disjoint_class (body.Disjoint c d) =
+value_plainly writing x disjoint_class (body.Disjoint c d) =
     option_and_then (λ one. as_id (writing.id one)) (other_class x c d)
-value_stating writing x below_role (body.SubRole r s) = where_true (bytes_eq x r) (as_id (writing.role_id s))
-value_stating writing x same_role (body.EquivRoles r s) = option_and_then (λ one. as_id (writing.role_id one)) (other_of x r s)
-value_stating writing x disjoint_role (body.DisjointRoles r s) = option_and_then (λ one. as_id (writing.role_id one)) (other_of x r s)
-value_stating writing x inverse_role (body.Inverse r s) = option_and_then (λ one. as_id (writing.role_id one)) (other_of x r s)
-value_stating writing x (has_character transitive) (body.Transitive r) = where_true (bytes_eq x r) (Some (value.Bool true))
-value_stating writing x (has_character reflexive) (body.Reflexive r) = where_true (bytes_eq x r) (Some (value.Bool true))
-value_stating writing x (has_character symmetric) (body.Symmetric r) = where_true (bytes_eq x r) (Some (value.Bool true))
-value_stating writing x (has_character asymmetric) (body.Asymmetric r) = where_true (bytes_eq x r) (Some (value.Bool true))
-value_stating writing x (has_character functional) (body.Functional r) = where_true (bytes_eq x r) (Some (value.Bool true))
-value_stating writing x (has_character inverse_functional) (body.InverseFunctional r) = where_true (bytes_eq x r) (Some (value.Bool true))
-value_stating writing x has_domain (body.Domain r c) = where_true (bytes_eq x r) (as_id (class_id writing c))
-value_stating writing x has_range (body.Range r c) = where_true (bytes_eq x r) (as_id (class_id writing c))
-value_stating writing x over (body.Chain r s t) = where_true (bytes_eq x r && bytes_eq x t) (as_id (writing.role_id s))
-value_stating writing x chain (body.Chain r s t) =
+value_plainly writing x below_role (body.SubRole r s) = where_true (bytes_eq x r) (as_id (writing.role_id s))
+value_plainly writing x same_role (body.EquivRoles r s) = option_and_then (λ one. as_id (writing.role_id one)) (other_of x r s)
+value_plainly writing x disjoint_role (body.DisjointRoles r s) = option_and_then (λ one. as_id (writing.role_id one)) (other_of x r s)
+value_plainly writing x inverse_role (body.Inverse r s) = option_and_then (λ one. as_id (writing.role_id one)) (other_of x r s)
+value_plainly writing x (has_character transitive) (body.Transitive r) = where_true (bytes_eq x r) (Some (value.Bool true))
+value_plainly writing x (has_character reflexive) (body.Reflexive r) = where_true (bytes_eq x r) (Some (value.Bool true))
+value_plainly writing x (has_character symmetric) (body.Symmetric r) = where_true (bytes_eq x r) (Some (value.Bool true))
+value_plainly writing x (has_character asymmetric) (body.Asymmetric r) = where_true (bytes_eq x r) (Some (value.Bool true))
+value_plainly writing x (has_character functional) (body.Functional r) = where_true (bytes_eq x r) (Some (value.Bool true))
+value_plainly writing x (has_character inverse_functional) (body.InverseFunctional r) = where_true (bytes_eq x r) (Some (value.Bool true))
+value_plainly writing x has_domain (body.Domain r c) = where_true (bytes_eq x r) (as_id (class_id writing c))
+value_plainly writing x has_range (body.Range r c) = where_true (bytes_eq x r) (as_id (class_id writing c))
+value_plainly writing x over (body.Chain r s t) = where_true (bytes_eq x r && bytes_eq x t) (as_id (writing.role_id s))
+value_plainly writing x chain (body.Chain r s t) =
     where_true (bytes_eq x t) (option_and_then (λ one. option_map (λ two. value.Pair one two) (writing.role_id s)) (writing.role_id r))
-value_stating writing x member (body.ClassAssertion c i) = where_true (bytes_eq x i) (as_id (class_id writing c))
-value_stating writing x related (body.RoleAssertion r i j) =
+value_plainly writing x member (body.ClassAssertion c i) = where_true (bytes_eq x i) (as_id (class_id writing c))
+value_plainly writing x related (body.RoleAssertion r i j) =
     where_true (bytes_eq x i) (option_and_then (λ role. option_map (λ id. value.Pair role id) (writing.id j)) (writing.role_id r))
-value_stating writing x _ _ = None
+value_plainly writing x _ _ = None
+
+-- a value, and the qualifiers beside it that have a meaning of their own
+pub record Worded : Type 0 where
+  pub value : Value
+  pub extras : List Qualifier
+
+abbrev pub worded_plainly : Value → Worded
+worded_plainly one = record { value = one; extras = [] }
+
+-- the value by which the entity states what an axiom says, with such qualifiers: none yet
+unfoldable pub value_stating : Writing → List ℕ → Statement → Body → Option Worded
+value_stating writing x statement one = option_map worded_plainly (value_plainly writing x statement one)
 
 -- ---- the tags of each frame kind, in the order in which they are tried
 
@@ -190,15 +208,26 @@ statements_of Instance = says (codes "instance_of") member ∷ says (codes "rela
 abbrev pub statement_in : List ℕ → StatementRow → Option Statement
 statement_in tag row = if bytes_eq row.tag tag then Some row.statement else None
 
+-- the qualifiers that have a meaning of their own, and the annotations that the others are
+abbrev pub extras_of : List Qualifier → List Qualifier
+extras_of qualifiers = filter (λ (q : Qualifier). is_reserved_key q.key) qualifiers
+
+abbrev pub annotations_of : List Qualifier → List Side
+annotations_of qualifiers = map side_of_qualifier (filter (λ (q : Qualifier). not (is_reserved_key q.key)) qualifiers)
+
 -- the axiom of a clause that states something of the entity with this IRI
 unfoldable pub statement_meaning : Reading → FrameKind → List ℕ → Clause → Option Axiom
 statement_meaning reading kind x clause =
-    option_map (λ said. record { body = said; sides = sorted_sides (map side_of_qualifier clause.qualifiers) })
-    (option_and_then (λ statement. stated reading x statement clause.value) (first_some (statement_in clause.tag) (statements_of kind)))
+    option_map (λ said. record { body = said; sides = sorted_sides (annotations_of clause.qualifiers) })
+    (option_and_then (λ statement. stated reading x statement (extras_of clause.qualifiers) clause.value) (first_some (statement_in clause.tag) (statements_of kind)))
+
+-- qualifiers that have a meaning of their own and annotations, in the order in which they are printed
+abbrev pub qualifiers_with : List Qualifier → List Side → Option (List Qualifier)
+qualifiers_with extras sides = option_map (λ qualifiers. sorted_by qualifier_text (extras ++ qualifiers)) (each_some qualifier_of sides)
 
 abbrev pub statement_by : Writing → List ℕ → Axiom → StatementRow → Option Clause
 statement_by writing x one row =
-    option_and_then (λ v. option_map (λ qualifiers. record { tag = row.tag; value = v; qualifiers = qualifiers }) (qualifiers_of one.sides))
+    option_and_then (λ (worded : Worded). option_map (λ qualifiers. record { tag = row.tag; value = worded.value; qualifiers = qualifiers }) (qualifiers_with worded.extras one.sides))
     (value_stating writing x row.statement one.body)
 
 -- the clause that states an axiom in a frame of the entity with this IRI
@@ -256,15 +285,24 @@ abbrev pub group_tag : Group → List ℕ
 group_tag intersection = codes "intersection_of"
 group_tag union = codes "union_of"
 
--- what a value of a group stands for, and the value that stands for it
-abbrev pub operand_read : Reading → Group → Value → Option ClassExpr
-operand_read reading group (value.Id id) = Some (class_read reading id)
-operand_read reading intersection (value.Pair role id) = Some (restriction reading role id)
-operand_read reading _ _ = None
+-- what a value of a group stands for, and the value that stands for it, without qualifiers that have a meaning of their own
+abbrev pub operand_plainly : Reading → Group → Value → Option ClassExpr
+operand_plainly reading group (value.Id id) = Some (class_read reading id)
+operand_plainly reading intersection (value.Pair role id) = Some (restriction reading role id)
+operand_plainly reading _ _ = None
 
 abbrev pub operand_value : Writing → Group → ClassExpr → Option Value
 operand_value writing union one = as_id (class_id writing one)
 operand_value writing intersection one = option_or (as_id (class_id writing one)) (restriction_words writing one)
+
+-- what a value of a group stands for together with such qualifiers: with any of them, nothing yet
+unfoldable pub operand_read : Reading → Group → List Qualifier → Value → Option ClassExpr
+operand_read reading group [] one = operand_plainly reading group one
+operand_read reading group (extra ∷ extras) one = None
+
+-- what a clause of a group stands for
+abbrev pub operand_of : Reading → Group → Clause → Option ClassExpr
+operand_of reading group clause = operand_read reading group (extras_of clause.qualifiers) clause.value
 
 abbrev pub group_expr : Group → List ClassExpr → ClassExpr
 group_expr intersection operands = expr.And operands
@@ -287,8 +325,8 @@ unfoldable pub group_meaning : Reading → List ℕ → Group → List Clause �
 group_meaning reading x group clauses =
     option_map (λ operands. record {
       body = expr_pair (class_named x) (group_expr group (sorted_by expr_text operands));
-      sides = sorted_sides (Rattle.std.specs.List.flat_map (λ (clause : Clause). map side_of_qualifier clause.qualifiers) clauses);
-    }) (each_some (λ (clause : Clause). operand_read reading group clause.value) clauses)
+      sides = sorted_sides (flat_map (λ (clause : Clause). annotations_of clause.qualifiers) clauses);
+    }) (each_some (operand_of reading group) clauses)
 
 -- the clauses of values in their order, the first with all qualifiers
 abbrev pub group_clauses : Group → List Qualifier → List Value → List Clause
