@@ -7,6 +7,5 @@ pub mod SaidSingly
 pub mod SetLaws
 pub mod SinglesLaw
 pub mod SpacedLaws
-pub mod SpelledFits
 pub mod SpelledLaw
 pub mod SpelledShapes

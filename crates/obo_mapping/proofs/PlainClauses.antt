@@ -3,7 +3,7 @@ use Rattle.std.proofs.Common.{◌≡◌, ◌⊎◌, ℕ, Bool, true, false, not,
 use Rattle.std.specs.List.{list_all, list_any}
 use Rattle.std.specs.Option.{is_none, option_and_then, option_map, option_map_or}
 use Rattle.std.specs.Str.{bytes_eq}
-use Rattle.std.proofs.lemmas.Bool.{and_parts, both_ways, cond-false, false_from_ne_true, not-true}
+use Rattle.std.proofs.lemmas.Bool.{and_parts, cond-false, false_from_ne_true, not-true}
 use Rattle.std.proofs.lemmas.Option.{none-some}
 use Rattle.obo_tags.specs.declared.kind.FrameKind.{FrameKind}
 use Rattle.obo_tags.specs.declared.kind.FrameKind.TheVariants.{Header, Instance, Term, Typedef}
@@ -11,27 +11,21 @@ use Rattle.obo_clause.specs.declared.clause.Clause.{Clause}
 use Rattle.obo_clause.specs.declared.clause.Qualifier.{Qualifier}
 use Rattle.obo_clause.specs.declared.clause.Value.{Value}
 use Rattle.obo_clause.specs.declared.clause.Value.TheVariants as value
-use Rattle.owl_axioms.specs.declared.annotation.Side.{Side}
 use Rattle.owl_axioms.specs.declared.body.Axiom.{Axiom}
-use Rattle.text_sets.specs.Parts.{each_some, first_some}
+use Rattle.text_sets.specs.Parts.{first_some}
 use Rattle.text_sets.specs.Sets.{In}
-use Rattle.text_sets.specs.Sorted.{sorted_by}
-use Rattle.text_sets.proofs.PartLemmas.{each_some-parts, first_some-found, option_and_then_some, option_cases, option_map_some}
-use Rattle.text_sets.proofs.SortedLemmas.{sorted_by-only}
-use Rattle.clause_printer.specs.Printing.{qualifier_text}
+use Rattle.text_sets.proofs.PartLemmas.{first_some-found, option_and_then_some, option_cases, option_map_some}
 use Rattle.obo_mapping.specs.Axioms.{Framed, Situation, is_metadata}
 use Rattle.obo_notes.specs.Context.{Reading, Writing, where_true}
 use Rattle.obo_mapping.specs.Documents.{group_of, group_with, has_reserved_key, has_tag, is_broken, is_header, is_misfit, is_of_metadata, is_other_name, is_raw, is_truth_value, is_typedef, is_untranslatable, situation_of}
 use Rattle.obo_notes.specs.Forms.{Form, said, spelled_as}
 use Rattle.obo_notes.specs.declared.note.Note.{Note}
-use Rattle.obo_notes.specs.Keys.{is_reserved_key, key_of, plain_text, qualifier_of}
+use Rattle.obo_notes.specs.Keys.{is_reserved_key}
 use Rattle.obo_notes.specs.Notes.{clause_by, clause_with, form_of, meaning, qualifiers_of, rows, spelling, tags_tried, with_qualifiers}
-use Rattle.obo_statements.specs.Statements.{Statement, StatementRow, stated_plainly, statement_by, statement_in, statement_meaning, statement_spelling, statements_of, value_plainly}
+use Rattle.obo_statements.specs.Statements.{Statement, StatementRow, stated_plainly, statement_in, statement_meaning, statement_spelling, statements_of, value_plainly}
 use Rattle.obo_statements.proofs.PlainMeaning.{meant_plainly, no_reserved, plain_by, spelling_is_plain}
-use Rattle.obo_mapping.proofs.AxiomLaws.{all_apart, is_apart, passes_in}
+use Rattle.obo_statements.proofs.StatementsBack.{all_apart, is_apart, passes_in}
 use Rattle.obo_notes.proofs.Guards.{none_from_is_none, same_bytes, where_true_some}
-use Rattle.obo_notes.proofs.KeyLemmas.{key_of-back}
-use Rattle.obo_mapping.proofs.OfSet.{in_from_any}
 use Rattle.obo_mapping.proofs.SinglesLaw.{metadata_has_no_form}
 
 -- ---- foreign values say nothing

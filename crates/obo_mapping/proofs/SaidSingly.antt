@@ -1,8 +1,7 @@
 -- A clause says one axiom by itself at most.
-use Rattle.std.proofs.Common.{◌≡◌, List, [], ◌∷◌, ◌++◌, Option, None, Some, codes, filter, not, refl, sym, ap, ◌∙◌, ℕ}
+use Rattle.std.proofs.Common.{◌≡◌, List, [], ◌∷◌, ◌++◌, Option, None, Some, codes, filter, not, refl, ap, ◌∙◌}
 use Rattle.std.specs.List.{cons_option, filter_map, flat_map}
 use Rattle.std.specs.Option.{option_to_list}
-use Rattle.owl_axioms.specs.declared.body.Axiom.{Axiom}
 use Rattle.obo_mapping.specs.Axioms.{Framed, Situation, axiom_said, axioms_said, entity_of}
 use Rattle.obo_mapping.specs.Documents.{group_said, is_untranslatable, kept_with, owl, situation_of, spaced, text_in}
 

@@ -1,5 +1,5 @@
 -- Axioms that are said one after the other.
-use Rattle.std.proofs.Common.{◌≡◌, ◌⊎◌, List, inl, inr, ⊎_elim, sym, subst, ◌∙◌, Option, None, Some}
+use Rattle.std.proofs.Common.{◌≡◌, ◌⊎◌, List, ⊎_elim, sym, subst, ◌∙◌, Option, None, Some}
 use Rattle.std.specs.List.{filter_map, flat_map}
 use Rattle.std.proofs.lemmas.Option.{none-some, same_Some}
 use Rattle.text_sets.specs.Sets.{In, SameMembers}

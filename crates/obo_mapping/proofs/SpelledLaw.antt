@@ -10,12 +10,11 @@ use Rattle.obo_tags.specs.declared.kind.FrameKind.TheVariants.{Term, Typedef}
 use Rattle.obo_clause.specs.declared.clause.Clause.{Clause}
 use Rattle.text_sets.proofs.SetLemmas.{In-append, In-append_left, In-append_right, In-filter, In-filter_map, In-flat_map, In-from_filter, In-from_filter_map, In-from_flat_map, In-from_map, In-map}
 use Rattle.text_sets.specs.Sets.{In, SameMembers}
-use Rattle.owl_axioms.specs.Proper.{is_proper_body, is_proper_expr, is_proper_pair, in_order}
-use Rattle.owl_axioms.specs.Text.{expr_text, side_text}
+use Rattle.owl_axioms.specs.Proper.{is_proper_body}
+use Rattle.owl_axioms.specs.Text.{side_text}
 use Rattle.owl_axioms.specs.declared.body.Axiom.{Axiom}
 use Rattle.owl_axioms.specs.declared.body.Body.{Body}
 use Rattle.owl_axioms.specs.declared.body.Body.TheVariants as body
-use Rattle.owl_axioms.specs.declared.expr.ClassExpr.{ClassExpr}
 use Rattle.owl_axioms.specs.declared.name.Kind.{Kind}
 use Rattle.owl_axioms.specs.declared.name.Kind.TheVariants as kinds
 use Rattle.owl_axioms.specs.declared.name.Name.{Name}
@@ -27,13 +26,11 @@ use Rattle.obo_mapping.specs.Documents.{clauses_for, declared_in, group_in, grou
 use Rattle.obo_notes.specs.Notes.{form_of, meaning}
 use Rattle.obo_statements.specs.Statements.{Group, group_in_body, group_meaning, group_operands, group_spelling, group_tag, intersection, statement_in, statement_meaning, statements_of, union}
 use Rattle.obo_mapping.proofs.AxiomLaws.{Knows}
-use Rattle.obo_statements.proofs.PlainMeaning.{group_is_plain, no_extras, plain_group}
-use Rattle.obo_statements.proofs.GroupLaws.{IsRising, group_reads_set}
+use Rattle.obo_statements.proofs.GroupsBack.{group_equates, group_reads_back}
 use Rattle.obo_notes.proofs.Guards.{same_bytes, where_true_some}
 use Rattle.obo_mapping.proofs.OfSet.{any_from_in, in_from_any}
 use Rattle.obo_mapping.proofs.PlainClauses.{IsNoneOfMetadata, Plain, id_tag, intersection_no_form, is_translatable, no_group, no_note, no_statement, note_tag, statement_tag, union_no_form}
 use Rattle.obo_statements.proofs.PlainMeaning.{any_false}
-use Rattle.obo_statements.proofs.Rising.{group_rises}
 use Rattle.obo_mapping.proofs.SetLaws.{EachSays}
 use Rattle.obo_mapping.proofs.SinglesLaw.{IsStatement, body_says}
 use Rattle.obo_mapping.proofs.SpelledShapes.{IsFormed, IsGroupAt, IsGroupClause, IsIdClause, IsMetadataClause, IsNoteClause, IsStatementClause, OfGroup, Shape, form_is, group_clause, shape}
@@ -118,13 +115,6 @@ pub name_declared : (a : Axiom) (name : Name) → a.body ≡ body.Declaration na
 name_declared a name is = ap (λ (said : Body). declared_in (record { body = said; sides = a.sides })) is
 
 -- ---- the order of a pair
-
-pub pair_in_order : (c d : ClassExpr) → is_proper_body (body.Equiv c d) ≡ true → (in_order (expr_text c) (expr_text d) ≡ true) × (is_proper_expr c ≡ true) × (is_proper_expr d ≡ true)
-unfolding is_proper_body is_proper_pair
-pair_in_order c d is =
-    let outer = and_parts (is_proper_expr c && is_proper_expr d) (in_order (expr_text c) (expr_text d)) is in
-    let inner = and_parts (is_proper_expr c) (is_proper_expr d) outer.0 in
-    (outer.1, inner.0, inner.1)
 
 pub id_no_statement : first_some (statement_in (codes "id")) (statements_of Typedef) ≡ None
 unfolding statements_of
@@ -240,41 +230,13 @@ module _ (D : List Framed) (w : Writing) (O : List Axiom) (agree : Agree (situat
       (λ among. In-map (λ (each : Framed). each.clause) (framed Term at.id c) (group_in S D at.iri group) (in_group a here group at c among)),
     )
 
-    rising : (group : Group) (c d : ClassExpr) → is_proper_body (body.Equiv c d) ≡ true → IsRising S.reading w agree group (body.Equiv c d)
-    rising group c d proper =
-        let parts = pair_in_order c d proper in
-        record {
-          rising = λ c' d' whole operands same which operands_are.
-              let c_is : c ≡ c' = ap (first_of c) same in
-              let d_is : d ≡ d' = ap (second_of d) same in
-              group_rises group whole operands operands_are
-              (⊎_elim (λ w_is. ap is_proper_expr (w_is ∙ sym c_is) ∙ parts.1) (λ w_is. ap is_proper_expr (w_is ∙ sym d_is) ∙ parts.2) which);
-        }
-      where
-        first_of : ClassExpr → Body → ClassExpr
-        first_of other (body.Equiv c d) = c
-        first_of other _ = other
-
-        second_of : ClassExpr → Body → ClassExpr
-        second_of other (body.Equiv c d) = d
-        second_of other _ = other
-
     -- the group of an axiom says it
     group_means : (a : Axiom) (group : Group) (x : List ℕ) (clauses others : List Clause) → (IsStatement a.body → is_proper_body a.body ≡ true) → Rises side_text a.sides → group_spelling w x group a ≡ Some clauses → SameMembers others clauses
         → (group_meaning S.reading x group others ≡ Some a) × ((c : Clause) × In c clauses)
-    unfolding group_spelling
     group_means a group x clauses others proper rises spelled_is same =
-        let plain = by_body a.body a.sides proper rises spelled_is in
-        let free = λ (c : Clause) (here : In c others). no_extras c.qualifiers (group_clause w x group a clauses spelled_is c ((same c).0 here)).six in
-        (group_is_plain S.reading x group others free ∙ plain.0, plain.1)
-      where
-        by_body : (said : Body) (sides : List Rattle.owl_axioms.specs.declared.annotation.Side.Side) → (IsStatement said → is_proper_body said ≡ true) → Rises side_text sides → group_in_body w x group sides said ≡ Some clauses
-            → (plain_group S.reading x group others ≡ Some (record { body = said; sides = sides })) × ((c : Clause) × In c clauses)
-        by_body (body.Equiv c d) sides proper rises spelled_is = (
-          group_reads_set S.reading w agree group x c d sides clauses others (pair_in_order c d (proper tt)).0 (rising group c d (proper tt)) rises spelled_is same,
-          Rattle.obo_statements.proofs.GroupLaws.group_has_clause S.reading w agree group x c d sides clauses (rising group c d (proper tt)) spelled_is,
-        )
-        by_body _ sides proper rises spelled_is = absurd (none-some clauses spelled_is)
+        let equates = group_equates w x group a clauses spelled_is in
+        let one = group_reads_back S.reading w agree group x a clauses others (proper (subst IsStatement (sym equates.2) tt)) rises spelled_is same in
+        (one.0, one.1)
 
     pub group_says : (a : Axiom) (here : In a O) (group : Group) (at : IsGroupAt S.reading w agree declared a (is.formed a here).clauses group) (c : Clause)
         → In c at.clauses → group_said S D (framed Term at.id c) ≡ Some a

@@ -36,12 +36,12 @@ use Rattle.obo_notes.specs.declared.note.Note.{Note}
 use Rattle.obo_notes.specs.Keys.{is_reserved_key}
 use Rattle.obo_notes.specs.Notes.{qualifiers_of, spelling}
 use Rattle.obo_statements.specs.Statements.{Group, anchors, class_anchor, clauses_with, group_clauses, group_in_body, group_operands, group_spelling, group_tag, intersection, operand_value, other_expr, statement_spelling, union}
-use Rattle.obo_mapping.proofs.AxiomLaws.{statement_reads_back}
+use Rattle.obo_statements.proofs.StatementsBack.{statement_reads_back}
 use Rattle.obo_notes.proofs.NoteLaws.{note_reads_back}
 use Rattle.obo_mapping.proofs.PlainClauses.{IsNote, IsStatementIn, is_note, is_statement, note_no_reserved, statement_no_reserved}
 use Rattle.obo_statements.proofs.PlainMeaning.{no_reserved}
 use Rattle.obo_notes.proofs.NoteFits.{spelled_note_fits}
-use Rattle.obo_mapping.proofs.SpelledFits.{spelled_group_fits, spelled_statement_fits}
+use Rattle.obo_statements.proofs.SpelledFits.{spelled_group_fits, spelled_statement_fits}
 use Rattle.obo_mapping.proofs.SinglesLaw.{IsStatement, anchors_logical, home_at-is, home_is}
 
 abbrev HasNoSix : Clause → Type 0

@@ -54,7 +54,7 @@ use Rattle.obo_mapping.proofs.OfSet.{any_from_in}
 use Rattle.obo_normal_form.proofs.OwlCases as source
 use Rattle.obo_notes.proofs.PartCovers.{All-In, some_value}
 use Rattle.obo_mapping.proofs.PlainClauses.{is_statement, statement_tag}
-use Rattle.obo_mapping.proofs.AxiomLaws.{passes_in}
+use Rattle.obo_statements.proofs.StatementsBack.{passes_in}
 use Rattle.obo_normal_form.proofs.SettleLaws.{fits_quals}
 use Rattle.obo_mapping.proofs.SinglesLaw.{IsStatement, home_is}
 use Rattle.obo_mapping.proofs.SpelledLaw.{is_declared_from}

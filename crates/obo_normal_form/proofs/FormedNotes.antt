@@ -43,7 +43,7 @@ use Rattle.obo_notes.specs.Notes.{form_of, meaning, rows, spelling, with_qualifi
 use Rattle.obo_mapping.specs.Sound.{IsSound}
 use Rattle.obo_statements.specs.Statements.{intersection, union}
 use Rattle.obo_notes.specs.Vocabulary.{own_property}
-use Rattle.obo_mapping.proofs.AxiomLaws.{id_has_no_form}
+use Rattle.obo_statements.proofs.StatementsBack.{id_has_no_form}
 use Rattle.obo_notes.proofs.ContextLemmas.{Agree-in}
 use Rattle.obo_notes.proofs.Guards.{where_true_some}
 use Rattle.obo_notes.proofs.NoteCovers.{Fit, fit_of}

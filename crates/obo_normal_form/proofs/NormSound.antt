@@ -50,7 +50,7 @@ use Rattle.obo_normal_form.proofs.NormLaw as norms
 use Rattle.obo_normal_form.proofs.OwlCases as source
 use Rattle.obo_notes.proofs.PartCovers.{All-In, some_value}
 use Rattle.obo_mapping.proofs.PlainClauses.{not_tag}
-use Rattle.obo_mapping.proofs.AxiomLaws.{all_apart, id_has_no_form, is_apart, passes_in}
+use Rattle.obo_statements.proofs.StatementsBack.{all_apart, id_has_no_form, is_apart, passes_in}
 use Rattle.obo_normal_form.proofs.SettleLaws.{fits_quals, settled_all, settled_fits}
 use Rattle.obo_mapping.proofs.SpelledLaw.{declared_among, declared_name, name_declared}
 use Rattle.obo_mapping.proofs.SpelledShapes.{IsAt, Shape, form_is, group_clause, shape}

@@ -42,7 +42,7 @@ use Rattle.obo_mapping.specs.Sound.{IsSound}
 use Rattle.obo_statements.specs.Statements.{Group, class_named, expr_pair, group_expr, group_meaning, operand_plainly}
 use Rattle.obo_notes.specs.Vocabulary.{iao_definition, iao_replaced_by, obo_in_owl, owl_deprecated, rdfs_comment, xsd, xsd_boolean, xsd_string}
 use Rattle.obo_statements.proofs.PlainMeaning.{grouped_plainly}
-use Rattle.obo_mapping.proofs.AxiomLaws.{passes_in}
+use Rattle.obo_statements.proofs.StatementsBack.{passes_in}
 use Rattle.obo_normal_form.proofs.FormedAxioms.{formed, rises_test}
 use Rattle.obo_normal_form.proofs.FormedNotes.{HasForm, agree, entity_iri}
 use Rattle.obo_normal_form.proofs.GroupSource.{group_once}

@@ -45,7 +45,8 @@ use Rattle.obo_normal_form.proofs.NormSound.{norm_is_framed}
 use Rattle.obo_normal_form.proofs.OwlCases as source
 use Rattle.obo_notes.proofs.PartCovers.{some_value}
 use Rattle.obo_mapping.proofs.SinglesLaw.{IsStatement}
-use Rattle.obo_mapping.proofs.SpelledLaw.{alone_no_group, group_says, pair_in_order, tag_of_group}
+use Rattle.obo_mapping.proofs.SpelledLaw.{alone_no_group, group_says, tag_of_group}
+use Rattle.obo_statements.proofs.GroupsBack.{pair_in_order}
 use Rattle.obo_mapping.proofs.SpelledShapes as shapes
 
 -- ---- the length of a sorted list goes by the texts

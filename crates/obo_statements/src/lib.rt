@@ -2,5 +2,8 @@
 //! that say one axiom together. The layers above translate the statements of documents by it, and spell those of ontologies.
 #![tactic(auto)]
 
-/// Nothing.
-pub fn nothing() {}
+mod laws;
+
+pub use laws::{
+    group_reads_back, spelled_groups_fit, spelled_statements_fit, statement_reads_back,
+};

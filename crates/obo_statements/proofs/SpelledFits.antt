@@ -1,4 +1,4 @@
--- Each clause that stands for an axiom is one that some line spells in its frame.
+-- The clauses of statements and groups are such that lines spell them.
 use Rattle.std.proofs.Common.{◌≡◌, ◌<◌, ℕ, Bool, true, false, ◌&&◌, List, [], ◌∷◌, codes, length, All, Option, Some, inl, inr, ⊎_elim, refl, sym, subst, arith, ◌∙◌}
 use Rattle.std.specs.List.{AllPass, list_all}
 use Rattle.std.specs.Option.{option_and_then, option_map}
@@ -167,7 +167,7 @@ module _ (reading : Reading) (writing : Writing) (agree : Agree reading writing)
       let row = first_some-found (plain_by writing x a) (statements_of kind) c (sym (spelling_is_plain writing kind x a) ∙ is) in
       let v = option_and_then_some (λ v. option_map (λ qualifiers. let d : Clause = record { tag = row.0.tag; value = v; qualifiers = qualifiers } in d) (qualifiers_of a.sides)) (value_plainly writing x row.0.statement a.body) c row.2 in
       let made = option_map_some (λ (qs : List Qualifier). let d : Clause = record { tag = row.0.tag; value = v.0; qualifiers = qs } in d) (qualifiers_of a.sides) c v.2 in
-      let good = Rattle.obo_mapping.proofs.AxiomLaws.passes_in is_good_tag (statements_of kind) row.0 (tags_good kind) row.1 in
+      let good = Rattle.obo_statements.proofs.StatementsBack.passes_in is_good_tag (statements_of kind) row.0 (tags_good kind) row.1 in
       let parts = and_parts (nat_lt 0 (length row.0.tag)) (list_all is_tag_byte row.0.tag) good in
       let shape = each_row (HasShape kind) (statements_of kind) row.0 (shapes_are kind) row.1 in
       subst (Fits kind false) made.2 (record {
