@@ -30,6 +30,7 @@ use Rattle.obo_notes.specs.Keys.{text_of_value, text_side}
 use Rattle.obo_notes.specs.Parts.{id_of_value, is_word, scope_of, side_of_scope, side_of_type, side_of_xref, text_of, type_of, xref_of}
 use Rattle.obo_notes.specs.Vocabulary.{has_dbxref, iao_definition, own_property, rdfs_comment, xsd, xsd_boolean, xsd_string}
 use Rattle.obo_notes.proofs.Guards.{none_from_is_none, same_bytes, take_one-single, where_true_some}
+use Rattle.obo_notes.proofs.KeyCovers.{constant_text, test_from_IsText}
 use Rattle.obo_notes.proofs.KeyLemmas.{text_of_value-back}
 use Rattle.obo_notes.proofs.PartBacks.{StandsFor-scope, StandsFor-text, StandsFor-type, link-back}
 
@@ -158,9 +159,15 @@ module _ (reading : Reading) (writing : Writing) (agree : Agree reading writing)
 
   -- ---- datatypes
 
-  local_datatype : (name : List ℕ) → datatype_iri reading (xsd_prefix ++ name) ≡ xsd ++ escaped_part name
+  local_datatype : (name : List ℕ) → is_text name ≡ true → datatype_iri reading (xsd_prefix ++ name) ≡ xsd ++ escaped_part name
   unfolding datatype_iri
-  local_datatype name = ap (datatype_by reading (xsd_prefix ++ name)) (after_start-append xsd_prefix name)
+  local_datatype name is =
+      ap (datatype_by reading (xsd_prefix ++ name)) (after_start-append xsd_prefix name)
+      ∙ cond-true (is_text name) (xsd ++ escaped_part name) (reading.iri (xsd_prefix ++ name)) is
+
+  -- `string` is a name that a line can hold
+  string_is_text : is_text (codes "string") ≡ true
+  string_is_text = test_from_IsText (codes "string") (constant_text (codes "string") refl refl refl)
 
   other_datatype : (word : List ℕ) → after_start xsd_prefix word ≡ None → datatype_iri reading word ≡ reading.iri word
   unfolding datatype_iri
@@ -182,8 +189,9 @@ module _ (reading : Reading) (writing : Writing) (agree : Agree reading writing)
       let rest = option_and_then_some (λ rest. xsd_name iri (percent_decode rest)) (after_start xsd iri) word local in
       let name = percent_decode rest.0 in
       let test = where_true_some (is_text name && bytes_eq (xsd ++ escaped_part name) iri) (Some (xsd_prefix ++ name)) word rest.2 in
-      let same = same_bytes (xsd ++ escaped_part name) iri (and_parts (is_text name) (bytes_eq (xsd ++ escaped_part name) iri) test.0).1 in
-      subst (λ w. datatype_iri reading w ≡ iri) (same_Some (xsd_prefix ++ name) word test.1) (local_datatype name ∙ same))
+      let tests = and_parts (is_text name) (bytes_eq (xsd ++ escaped_part name) iri) test.0 in
+      let same = same_bytes (xsd ++ escaped_part name) iri tests.1 in
+      subst (λ w. datatype_iri reading w ≡ iri) (same_Some (xsd_prefix ++ name) word test.1) (local_datatype name tests.0 ∙ same))
       (λ more. ⊎_elim
       (λ other.
       let id = option_and_then_some other_name (writing.id iri) word other in
@@ -201,7 +209,7 @@ module _ (reading : Reading) (writing : Writing) (agree : Agree reading writing)
   pub string_literal : (text : List ℕ) → literal text (datatype_iri reading (codes "xsd:string")) ≡ Text text
   unfolding escaped_part
   string_literal text =
-      ap (literal text) (local_datatype (codes "string")) ∙ cond-true (bytes_eq xsd_string xsd_string) (Text text) (Typed text xsd_string) (bytes_eq-refl xsd_string)
+      ap (literal text) (local_datatype (codes "string") string_is_text) ∙ cond-true (bytes_eq xsd_string xsd_string) (Text text) (Typed text xsd_string) (bytes_eq-refl xsd_string)
 
   -- ---- any relation
 

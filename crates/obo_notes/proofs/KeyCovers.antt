@@ -23,7 +23,7 @@ use Rattle.iri_map.proofs.UrlLemmas.{IsCleanUrl-escaped_url, is_readable-clean, 
 use Rattle.obo_clause.specs.Marks.{bare}
 use Rattle.obo_clause.specs.Vocabulary.{is_key_mark}
 use Rattle.obo_clause.specs.declared.clause.Qualifier.{Qualifier}
-use Rattle.clause_printer.specs.Laws.{FitsQualifier}
+use Rattle.obo_clause.specs.Fits.{FitsQualifier}
 use Rattle.obo_notes.specs.Context.{is_text, where_true}
 use Rattle.obo_notes.specs.Keys.{gives, is_key, is_reserved_key, key_if, key_of, key_property, plain_text, qualifier_of, side_of_qualifier}
 use Rattle.obo_notes.specs.Vocabulary.{obo_in_owl}

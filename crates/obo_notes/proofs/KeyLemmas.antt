@@ -12,7 +12,7 @@ use Rattle.obo_clause.specs.Marks.{bare}
 use Rattle.obo_clause.specs.Vocabulary.{is_key_mark}
 use Rattle.obo_clause.specs.declared.clause.Qualifier.{Qualifier}
 use Rattle.rel_io.specs.Texts.{IsText}
-use Rattle.clause_printer.specs.Laws.{FitsQualifier}
+use Rattle.obo_clause.specs.Fits.{FitsQualifier}
 use Rattle.owl_axioms.specs.declared.annotation.NoteValue.{NoteValue}
 use Rattle.owl_axioms.specs.declared.annotation.NoteValue.TheVariants.{Link, Text, Typed}
 use Rattle.owl_axioms.specs.declared.annotation.Side.{Side}

@@ -10,6 +10,7 @@ pub mod NoteHasClause
 pub mod NoteLaws
 pub mod PartBacks
 pub mod PartCovers
+pub mod PrintedOrder
 pub mod ProperSides
 pub mod SideTexts
 pub mod SortLemmas

@@ -1,5 +1,5 @@
 -- What a loop over a list has done, turn by turn.
-use Rattle.std.proofs.Common.{◌≡◌, ℕ, zero, suc, ◌+◌, ◌<◌, ◌≤◌, List, [], ◌∷◌, ◌++◌, Option, None, Some, map, length, get_or, take, drop, refl, sym, ap, subst, ◌∙◌, append_assoc, append-nil, add-one, arith, drop-cons, take-suc, take_all}
+use Rattle.std.proofs.Common.{◌≡◌, ℕ, zero, suc, ◌+◌, ◌<◌, ◌≤◌, List, [], ◌∷◌, ◌++◌, Option, None, Some, map, length, get_or, take, drop, refl, sym, ap, subst, ◌∙◌, append_assoc, add-one, arith, drop-cons, take-suc, take_all}
 use Rattle.std.specs.Option.{option_and_then, option_map, option_or, option_to_list}
 use Rattle.std.proofs.lemmas.List.{drop_all}
 use Rattle.text_sets.specs.Parts as parts
@@ -30,15 +30,16 @@ mapped_all f xs at before held ended so_far = so_far ∙ ap (λ ys. before ++ ma
 
 -- ---- the first answer
 
-pub first_none : {X Y : Type 0} (f : X → Option Y) (xs : List X) (at : ℕ) (x : X) (o : Option Y) → at < length xs → x ≡ get_or xs at x → f x ≡ None → first_some f (drop at xs) ≡ o → first_some f (drop (at + 1) xs) ≡ o
-first_none f xs at x o within is none so_far =
-    let here : drop at xs ≡ x ∷ drop (suc at) xs = drop-cons xs at x within ∙ ap (λ y. y ∷ drop (suc at) xs) (sym is) in
-    ap (λ n. first_some f (drop n xs)) (add-one at) ∙ sym (ap (λ a. option_or a (first_some f (drop (suc at) xs))) none) ∙ sym (ap (first_some f) here) ∙ so_far
+pub first_none : {X Y : Type 0} (f : X → Option Y) (xs : List X) (at : ℕ) (d : X) (o : Option Y) → at < length xs → f (get_or xs at d) ≡ None → first_some f (drop at xs) ≡ o → first_some f (drop (at + 1) xs) ≡ o
+first_none f xs at d o within none so_far =
+    ap (λ n. first_some f (drop n xs)) (add-one at)
+    ∙ sym (ap (λ a. option_or a (first_some f (drop (suc at) xs))) none)
+    ∙ sym (ap (first_some f) (drop-cons xs at d within))
+    ∙ so_far
 
-pub first_found : {X Y : Type 0} (f : X → Option Y) (xs : List X) (at : ℕ) (x : X) (y : Y) (o : Option Y) → at < length xs → x ≡ get_or xs at x → f x ≡ Some y → first_some f (drop at xs) ≡ o → Some y ≡ o
-first_found f xs at x y o within is some so_far =
-    let here : drop at xs ≡ x ∷ drop (suc at) xs = drop-cons xs at x within ∙ ap (λ y. y ∷ drop (suc at) xs) (sym is) in
-    sym (ap (λ a. option_or a (first_some f (drop (suc at) xs))) some) ∙ sym (ap (first_some f) here) ∙ so_far
+pub first_found : {X Y : Type 0} (f : X → Option Y) (xs : List X) (at : ℕ) (d : X) (y : Y) (o : Option Y) → at < length xs → f (get_or xs at d) ≡ Some y → first_some f (drop at xs) ≡ o → Some y ≡ o
+first_found f xs at d y o within some so_far =
+    sym (ap (λ a. option_or a (first_some f (drop (suc at) xs))) some) ∙ sym (ap (first_some f) (drop-cons xs at d within)) ∙ so_far
 
 pub first_missing : {X Y : Type 0} (f : X → Option Y) (xs : List X) (at : ℕ) (o : Option Y) → length xs ≤ at → first_some f (drop at xs) ≡ o → None ≡ o
 first_missing f xs at o ended so_far = sym (ap (first_some f) (drop_all at xs ended)) ∙ so_far
@@ -53,10 +54,10 @@ of_each_kind P all kinds.Instance = all.3
 
 more_behind : {X Y : Type 0} (part : X → Option Y) (x : X) (w : Y) (found : Option (List Y)) → option_map (λ ys. w ∷ ys) (option_and_then (λ ys. option_map (λ y. ys ++ y ∷ []) (part x)) found) ≡ option_and_then (λ ys. option_map (λ y. ys ++ y ∷ []) (part x)) (option_map (λ ys. w ∷ ys) found)
 more_behind part x w None = refl
-more_behind part x w (Some ys) = elim (part x) as (λ o. option_map (λ ys. w ∷ ys) (option_map (λ y. ys ++ y ∷ []) o) ≡ option_map (λ y. w ∷ ys ++ y ∷ []) o) [ | None ↦ refl | Some y ↦ refl ]
+more_behind part x w (Some ys) = elim (part x) as (λ o. option_map (λ ys. w ∷ ys) (option_map (λ y. ys ++ y ∷ []) o) ≡ option_map (λ y. w ∷ ys ++ y ∷ []) o) [ None ↦ refl | Some y ↦ refl ]
 
 each_more : {X Y : Type 0} (part : X → Option Y) (xs : List X) (x : X) → each_some part (xs ++ x ∷ []) ≡ option_and_then (λ ys. option_map (λ y. ys ++ y ∷ []) (part x)) (each_some part xs)
-each_more part [] x = elim (part x) as (λ o. option_and_then (λ y. option_map (λ ys. y ∷ ys) (Some [])) o ≡ option_map (λ y. y ∷ []) o) [ | None ↦ refl | Some y ↦ refl ]
+each_more part [] x = elim (part x) as (λ o. option_and_then (λ y. option_map (λ ys. y ∷ ys) (Some [])) o ≡ option_map (λ y. y ∷ []) o) [ None ↦ refl | Some y ↦ refl ]
 each_more part (z ∷ xs) x =
     elim (part z) as (λ o. option_and_then (λ w. option_map (λ ys. w ∷ ys) (each_some part (xs ++ x ∷ []))) o ≡ option_and_then (λ ys. option_map (λ y. ys ++ y ∷ []) (part x)) (option_and_then (λ w. option_map (λ ys. w ∷ ys) (each_some part xs)) o)) [
       | None ↦ refl
@@ -89,7 +90,7 @@ pub record IsOneTaken {X Y : Type 0} (part : X → Option Y) (xs : List X) (one 
   pub left : others ≡ (take_one part xs).rest
 
 one_more_found : {X Y : Type 0} (part : X → Option Y) (xs : List X) (x : X) → first_part (take_one part (xs ++ x ∷ [])).parts ≡ option_or (first_part (take_one part xs).parts) (part x)
-one_more_found part [] x = elim (part x) as (λ o. first_part (take_one_more x [] o (parts.taken [] [])).parts ≡ o) [ | None ↦ refl | Some y ↦ refl ]
+one_more_found part [] x = elim (part x) as (λ o. first_part (take_one_more x [] o (parts.taken [] [])).parts ≡ o) [ None ↦ refl | Some y ↦ refl ]
 one_more_found part (z ∷ xs) x =
     elim (part z) as (λ o. first_part (take_one_more z (xs ++ x ∷ []) o (take_one part (xs ++ x ∷ []))).parts ≡ option_or (first_part (take_one_more z xs o (take_one part xs)).parts) (part x)) [
       | None ↦ one_more_found part xs x
@@ -97,7 +98,7 @@ one_more_found part (z ∷ xs) x =
     ]
 
 one_more_left : {X Y : Type 0} (part : X → Option Y) (xs : List X) (x : X) → (take_one part (xs ++ x ∷ [])).rest ≡ (take_one part xs).rest ++ left_after (first_part (take_one part xs).parts) (part x) x
-one_more_left part [] x = elim (part x) as (λ o. (take_one_more x [] o (parts.taken [] [])).rest ≡ left_by o x) [ | None ↦ refl | Some y ↦ refl ]
+one_more_left part [] x = elim (part x) as (λ o. (take_one_more x [] o (parts.taken [] [])).rest ≡ left_by o x) [ None ↦ refl | Some y ↦ refl ]
 one_more_left part (z ∷ xs) x =
     elim (part z) as (λ o. (take_one_more z (xs ++ x ∷ []) o (take_one part (xs ++ x ∷ []))).rest ≡ (take_one_more z xs o (take_one part xs)).rest ++ left_after (first_part (take_one_more z xs o (take_one part xs)).parts) (part x) x) [
       | None ↦ ap (λ ys. z ∷ ys) (one_more_left part xs x)
@@ -122,7 +123,7 @@ pub record AreTaken {X Y : Type 0} (part : X → Option Y) (xs : List X) (found 
   pub left : others ≡ (parts.take_all part xs).rest
 
 all_more_own : {X Y : Type 0} (part : X → Option Y) (xs : List X) (x : X) → (parts.take_all part (xs ++ x ∷ [])).parts ≡ (parts.take_all part xs).parts ++ option_to_list (part x)
-all_more_own part [] x = elim (part x) as (λ o. (take_all_more x o (parts.taken [] [])).parts ≡ option_to_list o) [ | None ↦ refl | Some y ↦ refl ]
+all_more_own part [] x = elim (part x) as (λ o. (take_all_more x o (parts.taken [] [])).parts ≡ option_to_list o) [ None ↦ refl | Some y ↦ refl ]
 all_more_own part (z ∷ xs) x =
     elim (part z) as (λ o. (take_all_more z o (parts.take_all part (xs ++ x ∷ []))).parts ≡ (take_all_more z o (parts.take_all part xs)).parts ++ option_to_list (part x)) [
       | None ↦ all_more_own part xs x
@@ -130,7 +131,7 @@ all_more_own part (z ∷ xs) x =
     ]
 
 all_more_left : {X Y : Type 0} (part : X → Option Y) (xs : List X) (x : X) → (parts.take_all part (xs ++ x ∷ [])).rest ≡ (parts.take_all part xs).rest ++ left_by (part x) x
-all_more_left part [] x = elim (part x) as (λ o. (take_all_more x o (parts.taken [] [])).rest ≡ left_by o x) [ | None ↦ refl | Some y ↦ refl ]
+all_more_left part [] x = elim (part x) as (λ o. (take_all_more x o (parts.taken [] [])).rest ≡ left_by o x) [ None ↦ refl | Some y ↦ refl ]
 all_more_left part (z ∷ xs) x =
     elim (part z) as (λ o. (take_all_more z o (parts.take_all part (xs ++ x ∷ []))).rest ≡ (take_all_more z o (parts.take_all part xs)).rest ++ left_by (part x) x) [
       | None ↦ ap (λ ys. z ∷ ys) (all_more_left part xs x)

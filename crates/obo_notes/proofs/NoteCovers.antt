@@ -1,5 +1,5 @@
 -- The note of a clause has a clause again.
-use Rattle.std.proofs.Common.{◌≡◌, ◌⊎◌, ℕ, true, false, not, ◌&&◌, List, [], ◌∷◌, ◌++◌, codes, map, All, Option, None, Some, inl, inr, ⊎_elim, refl, sym, ap, subst, ◌∙◌, arith, if◌then◌else◌}
+use Rattle.std.proofs.Common.{◌≡◌, ◌⊎◌, ℕ, true, false, not, ◌&&◌, List, [], ◌∷◌, ◌++◌, codes, map, All, Option, None, Some, inl, inr, ⊎_elim, refl, sym, ap, subst, ◌∙◌, if◌then◌else◌}
 use Rattle.std.specs.Option.{IsSome, is_none, option_and_then, option_map, option_or, option_to_list}
 use Rattle.std.specs.Str.{bytes_eq}
 use Rattle.std.proofs.lemmas.Bool.{and_from, not_from_false}
@@ -14,7 +14,6 @@ use Rattle.iri_map.specs.Split.{after_start}
 use Rattle.iri_map.proofs.CandidateLemmas.{after_start-append, bytes_eq-refl}
 use Rattle.iri_map.proofs.EscapeLemmas.{percent_decode-escaped_part}
 use Rattle.iri_map.proofs.ReadableLemmas.{All-IsUtf8}
-use Rattle.iri_map.proofs.UrlLemmas.{starts}
 use Rattle.obo_tags.specs.declared.kind.ValueShape.{ValueShape}
 use Rattle.obo_tags.specs.declared.kind.ValueShape.TheVariants as shapes
 use Rattle.obo_clause.specs.declared.clause.Clause.{Clause}
@@ -24,7 +23,7 @@ use Rattle.obo_clause.specs.declared.clause.Scope.TheVariants as scope
 use Rattle.obo_clause.specs.declared.clause.Value.{Value}
 use Rattle.obo_clause.specs.declared.clause.Value.TheVariants as value
 use Rattle.obo_clause.specs.declared.clause.Xref.{Xref}
-use Rattle.clause_printer.specs.Laws.{FitsQualifier, FitsShape, FitsXref, IsTextOrNone, IsWordOrNone}
+use Rattle.obo_clause.specs.Fits.{FitsQualifier, FitsShape, FitsXref, IsTextOrNone, IsWordOrNone}
 use Rattle.clause_printer.specs.Printing.{qualifier_text}
 use Rattle.owl_axioms.specs.Text.{rdfs_label, side_text}
 use Rattle.owl_axioms.specs.declared.annotation.NoteValue.{NoteValue}
@@ -42,11 +41,9 @@ use Rattle.obo_notes.specs.Keys.{is_key, is_reserved_key, key_of, key_property, 
 use Rattle.obo_notes.specs.Notes.{clause_with, qualifiers_of, sorted_sides, with_qualifiers}
 use Rattle.obo_notes.specs.Parts.{id_of_value, is_word, scope_of, side_of_scope, side_of_type, side_of_xref, text_of, type_of, xref_of}
 use Rattle.obo_notes.specs.Vocabulary.{has_dbxref, has_scope, has_synonym_type, iao_definition, own_property, rdfs_comment, xsd, xsd_boolean, xsd_string}
-use Rattle.std.specs.Prelude.{drop, take}
-use Rattle.clause_printer.proofs.TextCuts.{text_front as front}
 use Rattle.std.specs.declared.cmp.Ordering.TheVariants.{Less}
 use Rattle.obo_clause.specs.Spelling.{scope_word}
-use Rattle.obo_notes.proofs.KeyLemmas.{qualifier_of-back}
+use Rattle.obo_notes.proofs.KeyLemmas.{IsText-from_test, qualifier_of-back}
 use Rattle.obo_notes.proofs.Guards.{where_true_some}
 use Rattle.obo_notes.proofs.KeyCovers.{constant_key, constant_text, key_covered, key_property-url, qualifier_covered, test_from_IsText}
 use Rattle.obo_notes.proofs.PartCovers.{All-In, is_word-from, never_some_none, some_value, take_all-among, take_all-rest, take_one-among, take_one-rest, take_one-some, text_covered, xref_covered}
@@ -185,20 +182,16 @@ module _ (reading : Reading) (writing : Writing) (agree : Agree reading writing)
 
   -- ---- what a word names has a word
 
-  text_behind : (id name : List ℕ) → IsText id → after_start xsd_prefix id ≡ Some name → IsText name
-  text_behind id name is behind =
-      let found = where_true_some (bytes_eq xsd_prefix (take 4 id)) (Some (drop 4 id)) name behind in
-      let same = starts xsd_prefix id found.0 ∙ ap (λ x. xsd_prefix ++ x) (same_Some (drop 4 id) name found.1) in
-      let whole : IsText (120 ∷ 115 ∷ 100 ∷ 58 ∷ name) = subst IsText same is in
-      front 58 name (omega arith) (front 100 (58 ∷ name) (omega arith) (front 115 (100 ∷ 58 ∷ name) (omega arith) (front 120 (115 ∷ 100 ∷ 58 ∷ name) (omega arith) whole)))
-
-  word_has_word : (id : List ℕ) → IsText id → HasWord (datatype_iri reading id)
+  word_has_word : (id : List ℕ) → HasWord (datatype_iri reading id)
   unfolding datatype_iri
-  word_has_word id is =
-      elim (after_start xsd_prefix id) as (λ o. after_start xsd_prefix id ≡ o → HasWord (datatype_by reading id o)) [
-        | None ↦ λ _. other_has_word id
-        | Some name ↦ λ behind. local_has_word name (text_behind id name is behind)
-      ] refl
+  word_has_word id =
+      elim (after_start xsd_prefix id) as (λ o. HasWord (datatype_by reading id o)) [
+        | None ↦ other_has_word id
+        | Some name ↦ elim (is_text name) as (λ b. is_text name ≡ b → HasWord (if b then xsd ++ escaped_part name else reading.iri id)) [
+          | true ↦ λ is. local_has_word name (IsText-from_test name is)
+          | false ↦ λ _. other_has_word id
+        ] refl
+      ]
 
   literal_has_value : (relation text datatype : List ℕ) → is_text text ≡ true → IsText datatype → IsSome (as_value_of writing relation (literal text (datatype_iri reading datatype)))
   literal_has_value relation text datatype is word =
@@ -206,7 +199,7 @@ module _ (reading : Reading) (writing : Writing) (agree : Agree reading writing)
       elim (bytes_eq iri xsd_string) as (λ b. bytes_eq iri xsd_string ≡ b → IsSome (as_value_of writing relation (if b then Text text else Typed text iri))) [
         | true ↦ λ _. subst (λ b. IsSome (where_true b (Some (value.Literal relation text (codes "xsd:string"))))) (sym is) refl
         | false ↦ λ other.
-            let found = some_value (datatype_word writing iri) (word_has_word datatype word) in
+            let found = some_value (datatype_word writing iri) (word_has_word datatype) in
             let test = and_from (is_text text) (not (bytes_eq iri xsd_string)) is (not_from_false (bytes_eq iri xsd_string) other) in
             subst (λ b. IsSome (where_true b (option_map (λ w. value.Literal relation text w) (datatype_word writing iri)))) (sym test)
             (subst (λ o. IsSome (option_map (λ w. value.Literal relation text w) o)) (sym found.1) refl)

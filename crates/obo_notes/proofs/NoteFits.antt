@@ -24,7 +24,7 @@ use Rattle.rel_io.proofs.Texts.{word_from_readable}
 use Rattle.text_sets.proofs.SetLemmas.{In-append}
 use Rattle.text_sets.specs.Sets.{In}
 use Rattle.rel_io.specs.Texts.{IsText, IsWordText}
-use Rattle.clause_printer.specs.Laws.{FitBehind, Fits, FitsQualifier, FitsShape, IsTextOrNone, IsWordOrNone}
+use Rattle.obo_clause.specs.Fits.{FitBehind, Fits, FitsQualifier, FitsShape, IsTextOrNone, IsWordOrNone}
 use Rattle.clause_printer.specs.Printing.{qualifier_text, xref_text}
 use Rattle.std.proofs.lemmas.Str.{IsUtf8-append}
 use Rattle.percent_encoding.specs.Percent.{percent_decode}

@@ -18,7 +18,7 @@ use Rattle.obo_clause.specs.declared.clause.Value.{Value}
 use Rattle.obo_clause.specs.declared.clause.Value.TheVariants as value
 use Rattle.text_sets.proofs.SetLemmas.{In-append_left, In-append_right}
 use Rattle.text_sets.specs.Sets.{In}
-use Rattle.clause_printer.specs.Laws.{FitBehind, FitsQualifier, FitsShape}
+use Rattle.obo_clause.specs.Fits.{FitBehind, FitsQualifier, FitsShape}
 use Rattle.text_sets.proofs.PartLemmas.{first_some-some, option_and_then_some, option_map_some}
 use Rattle.obo_notes.specs.Context.{Agree, Reading, Writing}
 use Rattle.obo_notes.specs.Forms.{Form, said, spelled_as}

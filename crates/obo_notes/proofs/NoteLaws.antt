@@ -16,7 +16,7 @@ use Rattle.obo_clause.specs.declared.clause.Value.TheVariants as value
 use Rattle.obo_clause.proofs.AnswerLemmas.{spells-one-clause}
 use Rattle.text_sets.proofs.SetLemmas.{In-append, In-append_left, In-append_right, In-from_map, In-map}
 use Rattle.text_sets.specs.Sets.{AreTold, In, SameMembers}
-use Rattle.clause_printer.specs.Laws.{FitBehind, Fits, FitsQualifier, FitsShape}
+use Rattle.obo_clause.specs.Fits.{FitBehind, Fits, FitsQualifier, FitsShape}
 use Rattle.clause_printer.specs.Printing.{clause_text, qualifier_text}
 use Rattle.clause_printer.proofs.PrintedLines.{printed_line, text_of_line}
 use Rattle.clause_printer.proofs.PrintedParts.{IsLine-nil}
@@ -83,13 +83,16 @@ each_fits (side ∷ sides) found is q here =
     (λ later. each_fits sides more.0 more.1 q later)
     (subst (In q) (sym more.2) here)
 
+pub told_qualifiers : (sides : List Side) (ys : List Qualifier) → each_some qualifier_of sides ≡ Some ys → AreTold qualifier_text ys
+told_qualifiers sides ys is a b p q = same_qualifier a b (each_fits sides ys is a p) (each_fits sides ys is b q)
+
 -- the qualifiers stand for the annotations
 pub same_qualifiers : (sides : List Side) (qualifiers : List Qualifier) → qualifiers_of sides ≡ Some qualifiers → SameMembers (map side_of_qualifier qualifiers) sides
 same_qualifiers sides qualifiers is side =
     let found = option_map_some (sorted_by qualifier_text) (each_some qualifier_of sides) qualifiers is in
     let ys = found.0 in
     let back = each_some-back qualifier_of side_of_qualifier StandsFor-qualifier sides ys found.1 in
-    let told : AreTold qualifier_text ys = λ a b p q. same_qualifier a b (each_fits sides ys found.1 a p) (each_fits sides ys found.1 b q) in (
+    let told = told_qualifiers sides ys found.1 in (
       (λ here.
           let q = In-from_map side_of_qualifier side qualifiers here in
           let among = sorted_by-only qualifier_text ys q.0 (subst (In q.0) (sym found.2) q.1) in

@@ -11,7 +11,7 @@ use Rattle.iri_map.proofs.CandidateLemmas.{bytes_eq-refl}
 use Rattle.obo_clause.specs.declared.clause.Xref.{Xref}
 use Rattle.text_sets.specs.Sets.{In}
 use Rattle.rel_io.specs.Texts.{IsWordText}
-use Rattle.clause_printer.specs.Laws.{FitsXref, IsTextOrNone}
+use Rattle.obo_clause.specs.Fits.{FitsXref, IsTextOrNone}
 use Rattle.text_sets.specs.Parts.{take_all, take_all_more, take_one, take_one_more}
 use Rattle.text_sets.specs.Sorted.{IsBelow, Rises, by_text}
 use Rattle.obo_notes.specs.Context.{is_text, where_true}

@@ -20,7 +20,7 @@ use Rattle.obo_clause.proofs.AnswerLemmas.{spells-one-clause}
 use Rattle.text_sets.proofs.SetLemmas.{In-from_map, In-map}
 use Rattle.text_sets.specs.Sets.{AreTold, In}
 use Rattle.rel_io.specs.Texts.{IsWordText}
-use Rattle.clause_printer.specs.Laws.{FitBehind, Fits, FitsQualifier, FitsShape, FitsXref, IsTextOrNone}
+use Rattle.obo_clause.specs.Fits.{FitBehind, Fits, FitsQualifier, FitsShape, FitsXref, IsTextOrNone}
 use Rattle.clause_printer.specs.Printing.{behind_space, clause_text, xref_text}
 use Rattle.clause_printer.proofs.PrintedLines.{printed_line}
 use Rattle.owl_axioms.specs.declared.annotation.Side.{Side}
@@ -111,11 +111,14 @@ same_xref one other fits also same =
 
 -- ---- the list
 
+pub told_xrefs : (sides : List Side) → AreTold xref_text (take_all xref_of sides).parts
+told_xrefs sides a b p q = same_xref a b (taken_fits sides a p) (taken_fits sides b q)
+
 pub Splits-xrefs : (sides : List Side) → Splits sides (map side_of_xref (sorted_by xref_text (take_all xref_of sides).parts)) (take_all xref_of sides).rest
 Splits-xrefs sides =
     let all = take_all xref_of sides in
     let splits = take_all-splits xref_of side_of_xref StandsFor-xref sides in
-    let told : AreTold xref_text all.parts = λ a b p q. same_xref a b (taken_fits sides a p) (taken_fits sides b q) in
+    let told = told_xrefs sides in
     record {
       each = λ side here. ⊎_elim
           (λ mine. inl (let x = In-from_map side_of_xref side all.parts mine in

@@ -56,10 +56,10 @@ where_true test answer = if test then answer else None
 abbrev pub xsd_prefix : List ℕ
 xsd_prefix = codes "xsd:"
 
--- the IRI of a datatype: behind `xsd:` a name of the datatypes of XML Schema, and else that of an id
+-- the IRI of a datatype: of XML Schema, where a text that a line can hold stands behind `xsd:`, and else that of an id
 abbrev pub datatype_by : Reading → List ℕ → Option (List ℕ) → List ℕ
 datatype_by reading word None = reading.iri word
-datatype_by reading word (Some local) = xsd ++ escaped_part local
+datatype_by reading word (Some name) = if is_text name then xsd ++ escaped_part name else reading.iri word
 
 unfoldable pub datatype_iri : Reading → List ℕ → List ℕ
 datatype_iri reading word = datatype_by reading word (after_start xsd_prefix word)

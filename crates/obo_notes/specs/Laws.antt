@@ -1,14 +1,18 @@
 -- What the mapping of notes amounts to. (Own.)
-use Rattle.std.specs.Prelude.{◌≡◌, ℕ, List, Some, false}
+use Rattle.std.specs.Prelude.{◌≡◌, ℕ, List, [], Some, false}
 use Rattle.std.specs.List.{All}
 use Rattle.std.specs.Option.{IsSome}
 use Rattle.obo_tags.specs.declared.kind.FrameKind.{FrameKind}
 use Rattle.obo_clause.specs.declared.clause.Clause.{Clause}
+use Rattle.obo_clause.specs.declared.clause.Value.{Value}
+use Rattle.obo_clause.specs.declared.clause.Value.TheVariants as value
+use Rattle.obo_clause.specs.declared.clause.Xref.{Xref}
+use Rattle.clause_printer.specs.Printing.{qualifier_text, xref_text}
 use Rattle.owl_axioms.specs.Text.{side_text}
 use Rattle.text_sets.specs.Sorted.{Rises}
 use Rattle.obo_notes.specs.Context.{Reading, Writing, reading_in, writing_in}
 use Rattle.obo_clause.specs.declared.clause.Qualifier.{Qualifier}
-use Rattle.clause_printer.specs.Laws.{Fits}
+use Rattle.obo_clause.specs.Fits.{Fits}
 use Rattle.obo_notes.specs.Keys.{is_reserved_key}
 use Rattle.obo_notes.specs.declared.note.Note.{Note}
 use Rattle.obo_notes.specs.Notes.{meaning, spelling}
@@ -37,3 +41,18 @@ NoteHasClauseIn space = (kind : FrameKind) (clause : Clause) → NoteHasClause (
 -- the clause of a note is one that some line spells in a frame of the kind
 abbrev pub NoteFitsIn : List ℕ → Type 0
 NoteFitsIn space = (kind : FrameKind) (note : Note) (clause : Clause) → spelling (writing_in space) kind note ≡ Some clause → Fits kind false clause
+
+-- the xref list of a value
+unfoldable pub xrefs_in : Value → List Xref
+xrefs_in (value.Def text xrefs) = xrefs
+xrefs_in (value.Synonym text scope type xrefs) = xrefs
+xrefs_in _ = []
+
+-- entries of xref lists and qualifiers stand in the order of what is printed of them, each once
+pub record IsInPrintedOrder (clause : Clause) : Type 0 where
+  pub xrefs : Rises xref_text (xrefs_in clause.value)
+  pub qualifiers : Rises qualifier_text clause.qualifiers
+
+-- the clause of a note has its lists in printed order
+abbrev pub NoteIsInOrderIn : List ℕ → Type 0
+NoteIsInOrderIn space = (kind : FrameKind) (note : Note) (clause : Clause) → spelling (writing_in space) kind note ≡ Some clause → IsInPrintedOrder clause

@@ -17,14 +17,14 @@ use std::alloc::Global;
 /// What a word for a datatype of XML Schema begins with.
 const PREFIX: &[u8] = b"xsd:";
 
-/// The IRI of a datatype: that of XML Schema behind `xsd:`, and else that of an id.
+/// The IRI of a datatype: of XML Schema, where a text that a line can hold stands behind `xsd:`, and else that of an id.
 #[tactic(auto, unfolding(crate::specs::Context::datatype_iri))]
 pub fn datatype_iri(alloc: Global, space: &Bytes, word: &Bytes) -> Result<Iri, NoMemory>
     ensures { IfOk result (λ iri. iri ≡ spec.datatype_iri (spec.reading_in space.now) word.now) }
 {
     match after_start(PREFIX, word.as_slice()) {
-        Some(name) => xsd_iri(alloc, name),
-        None => iri_of(alloc, word, space),
+        Some(name) if is_text(name) => xsd_iri(alloc, name),
+        _ => iri_of(alloc, word, space),
     }
 }
 

@@ -1,20 +1,19 @@
 //! The keys of qualifiers, and the annotation properties that they stand for.
-ghost use Rattle.std.specs.Prelude.{◌≡◌, ◌||◌, ◌∷◌, ◌++◌, IfOk, codes};
+ghost use Rattle.std.specs.Prelude.{◌≡◌, ◌++◌, IfOk};
 ghost use Rattle.std.specs.List.{list_all};
 ghost use Rattle.std.specs.Option.{option_and_then, option_map};
 ghost use Rattle.percent_encoding.specs.Percent.{percent_decode};
 ghost use Rattle.iri_map.specs.Escape.{escaped_part};
 ghost use Rattle.iri_map.specs.Split.{after_start};
 ghost use Rattle.obo_clause.specs.Marks.{bare};
-ghost use Rattle.obo_clause.specs.Vocabulary.{is_key_mark, is_one_of};
-ghost use Rattle.obo_lexer.specs.Tokens.{is_blank};
+ghost use Rattle.obo_clause.specs.Vocabulary.{is_key_mark};
 ghost use Rattle.obo_notes.specs.Keys as spec;
 ghost use Rattle.obo_notes.specs.Vocabulary.{obo_in_owl};
 
 use crate::texts::{is_text, is_utf8};
 use crate::vocabulary::obo_in_owl;
 use iri_map::{after_start, decoded, is_url, push_part, url_iri};
-use obo_clause::Qualifier;
+use obo_clause::{Qualifier, ends_key};
 use owl_axioms::{NoteValue, Side};
 use rel_io::{Bytes, Dup, Iri, NoMemory};
 use std::alloc::Global;
@@ -38,16 +37,6 @@ fn own_property(alloc: Global, name: &[u8]) -> Result<Iri, NoMemory>
     let mut property = Vec::from_slice(alloc, obo_in_owl())?;
     push_part(&mut property, name)?;
     Ok(Iri::from_vec(property))
-}
-
-/// Whether the byte may not stand in a key.
-fn ends_key(byte: u8) -> bool
-    ensures { result ≡ (is_blank byte || is_one_of (10 ∷ 13 ∷ codes "=,{}\"!\\") byte) }
-{
-    matches!(
-        byte,
-        b' ' | b'\t' | b'\n' | b'\r' | b'=' | b',' | b'{' | b'}' | b'"' | b'!' | b'\\'
-    )
 }
 
 /// Whether all bytes may stand in a key.

@@ -1,5 +1,10 @@
 //! What the meaning and the spelling of notes amount to. Each law is the contract of a function that does nothing.
-ghost use Rattle.obo_notes.specs.Laws.{NoteFitsIn, NoteHasClauseIn, NoteReadsBackIn};
+ghost use Rattle.obo_notes.specs.Laws.{
+  NoteFitsIn,
+  NoteHasClauseIn,
+  NoteIsInOrderIn,
+  NoteReadsBackIn,
+};
 
 use rel_io::Bytes;
 
@@ -16,4 +21,9 @@ pub fn each_note_has_clause(space: &Bytes)
 /// The clause of a note is one that some line spells.
 pub fn spelled_notes_fit(space: &Bytes)
     ensures { NoteFitsIn space.now }
+{}
+
+/// The clause of a note has the entries of its xref list and its qualifiers in the order of what is printed of them.
+pub fn spelled_notes_are_in_order(space: &Bytes)
+    ensures { NoteIsInOrderIn space.now }
 {}

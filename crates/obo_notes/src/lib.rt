@@ -19,6 +19,8 @@ mod texts;
 mod vocabulary;
 
 pub use clause::clause_of;
-pub use laws::{each_note_has_clause, note_reads_back, spelled_notes_fit};
+pub use laws::{
+    each_note_has_clause, note_reads_back, spelled_notes_are_in_order, spelled_notes_fit,
+};
 pub use note::Note;
 pub use said::note_of;

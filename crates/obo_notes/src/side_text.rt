@@ -2,9 +2,8 @@
 ghost use Rattle.std.specs.Prelude.{◌≡◌, ◌∷◌, ◌++◌, ◌||◌, ◌==◌, [], IfOk, OnOk, codes, if◌then◌else◌};
 ghost use Rattle.std.specs.List.{flat_map};
 ghost use Rattle.owl_axioms.specs.Text as spec;
-ghost use Rattle.obo_notes.specs.inner.Texts.{behind_label, escaped_byte, label_front};
+ghost use Rattle.obo_notes.specs.inner.Texts.{behind_label, escaped_byte, label_begin, label_front};
 
-use crate::vocabulary::rdfs_label;
 use owl_axioms::{NoteValue, Side};
 use rel_io::{Bytes, NoMemory};
 
@@ -31,15 +30,29 @@ fn push_label(out: &mut Vec<u8>, label: &Option<Bytes>) -> Result<(), NoMemory>
     ensures { OnOk result (out.new.items ≡ out.old.items ++ label_front label.now) }
 {
     match label {
-        Some(label) => {
-            push_bytes(out, b"Annotation(")?;
-            push_iri(out, rdfs_label())?;
-            push_bytes(out, b" ")?;
-            push_quoted(out, label.as_slice())?;
-            push_bytes(out, b") ")
-        }
+        Some(label) => push_some_label(out, label.as_slice()),
         None => Ok(()),
     }
+}
+
+/// Appends a label of an annotation and a space.
+fn push_some_label(out: &mut Vec<u8>, label: &[u8]) -> Result<(), NoMemory>
+    ensures { OnOk result (out.new.items ≡ out.old.items ++ (label_begin ++ (spec.quoted label.now ++ codes ") "))) }
+{
+    push_label_begin(out)?;
+    push_quoted(out, label)?;
+    push_bytes(out, b") ")
+}
+
+/// Appends what stands before a label.
+#[tactic(auto, unfolding(owl_axioms::specs::Text::iri_text, owl_axioms::specs::Text::rdfs_label))]
+fn push_label_begin(out: &mut Vec<u8>) -> Result<(), NoMemory>
+    ensures { OnOk result (out.new.items ≡ out.old.items ++ label_begin) }
+{
+    push_bytes(
+        out,
+        b"Annotation(<http://www.w3.org/2000/01/rdf-schema#label> ",
+    )
 }
 
 /// Appends what stands behind the label of an annotation.

@@ -7,10 +7,14 @@ use Rattle.owl_axioms.specs.declared.annotation.Side.{Side}
 abbrev pub escaped_byte : ℕ → List ℕ
 escaped_byte byte = if byte == 34 || byte == 92 then 92 ∷ byte ∷ [] else byte ∷ []
 
+-- what stands before the label of an annotation
+abbrev pub label_begin : List ℕ
+label_begin = codes "Annotation(" ++ (iri_text rdfs_label ++ codes " ")
+
 -- the label of an annotation as an annotation of it, and a space
 abbrev pub label_front : Option (List ℕ) → List ℕ
 label_front None = []
-label_front (Some label) = (codes "Annotation(" ++ (iri_text rdfs_label ++ codes " ")) ++ (quoted label ++ codes ") ")
+label_front (Some label) = label_begin ++ (quoted label ++ codes ") ")
 
 -- what stands behind the label
 abbrev pub behind_label : Side → List ℕ

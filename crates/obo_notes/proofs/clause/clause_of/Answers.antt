@@ -1,4 +1,4 @@
-use Rattle.std.proofs.Common.{◌≡◌, sym}
+use Rattle.std.proofs.Common.{◌≡◌, sym, ◌∙◌}
 use Rattle.text_sets.specs.Parts.{first_some}
 use Rattle.obo_notes.specs.Context.{writing_in}
 use Rattle.obo_notes.specs.Notes.{spelling}
@@ -13,12 +13,14 @@ loop-row-init c =
 
 pub loop-row-preserved : goal.loop-row-preserved
 loop-row-preserved c =
-    first_none (clause_in (writing_in c.args.space.now) c.args.kind c.args.note.now) c.rows-table.result.now c.loop-row.row-index c.row-item.result _ c.loop-row-test.true c.row-item.is (sym c.in-None.ensures) c.loop-row.invariant
+    first_none (clause_in (writing_in c.args.space.now) c.args.kind c.args.note.now) c.rows-table.result.now c.loop-row.row-index _ (spelling (writing_in c.args.space.now) c.args.kind c.args.note.now) c.loop-row-test.true (sym c.in_ok-clause.ensures ∙ c.in-None.is) c.loop-row.invariant
 
 pub returns-in-Some : goal.returns-in-Some
-returns-in-Some c =
-    first_found (clause_in (writing_in c.args.space.now) c.args.kind c.args.note.now) c.rows-table.result.now c.loop-row.row-index c.row-item.result c.in-Some.clause _ c.loop-row-test.true c.row-item.is (sym c.in-Some.ensures) c.loop-row.invariant
+returns-in-Some c = record {
+  exact = first_found (clause_in (writing_in c.args.space.now) c.args.kind c.args.note.now) c.rows-table.result.now c.loop-row.row-index _ c.in-Some.clause (spelling (writing_in c.args.space.now) c.args.kind c.args.note.now) c.loop-row-test.true (sym c.in_ok-clause.ensures ∙ c.in-Some.is) c.loop-row.invariant;
+}
 
 pub returns : goal.returns
-returns c =
-    first_missing (clause_in (writing_in c.args.space.now) c.args.kind c.args.note.now) c.rows-table.result.now c.loop-row.row-index _ c.loop-row-test.false c.loop-row.invariant
+returns c = record {
+  exact = first_missing (clause_in (writing_in c.args.space.now) c.args.kind c.args.note.now) c.rows-table.result.now c.loop-row.row-index (spelling (writing_in c.args.space.now) c.args.kind c.args.note.now) c.loop-row-test.false c.loop-row.invariant;
+}

@@ -1,4 +1,4 @@
-use Rattle.std.proofs.Common.{ap, refl, sym, ◌∙◌, ◌++◌}
+use Rattle.std.proofs.Common.{ap, refl, ◌∙◌, ◌++◌}
 use Rattle.std.specs.Option.{option_or}
 use Rattle.obo_notes.specs.Parts.{text_of}
 use Rattle.obo_notes.specs.inner.Taking.{left_after}
@@ -6,7 +6,7 @@ use Rattle.obo_notes.proofs.LoopLemmas.{IsOneTaken-all, IsOneTaken-more}
 use Rattle.obo_notes.proofs.taking.take_text.Goals as goal
 
 pub loop-side-init : goal.loop-side-init
-loop-side-init c = record { found = refl; left = refl }
+loop-side-init c = record { found = refl; left = c.new-rest.ensures.items }
 
 pub loop-side-preserved : goal.loop-side-preserved
 loop-side-preserved c =

@@ -1,10 +1,9 @@
-use Rattle.std.proofs.Common.{refl}
 use Rattle.obo_notes.specs.Parts.{xref_of}
 use Rattle.obo_notes.proofs.LoopLemmas.{AreTaken-all, AreTaken-more}
 use Rattle.obo_notes.proofs.taking.xrefs_and_rest.Goals as goal
 
 pub loop-side-init : goal.loop-side-init
-loop-side-init c = record { own = refl; left = refl }
+loop-side-init c = record { own = c.new-xrefs.ensures.items; left = c.new-rest.ensures.items }
 
 pub loop-side-preserved : goal.loop-side-preserved
 loop-side-preserved c =
