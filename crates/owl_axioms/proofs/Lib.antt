@@ -1,2 +1,11 @@
+pub mod JoinedTexts
+pub mod Layers
+pub mod Making
+pub mod Members
+pub mod NamedClasses
 pub mod ProperAxioms
 pub mod Same
+pub mod SortedTexts
+pub mod TellingSides
+pub mod TellingTexts
+pub mod TextFronts
