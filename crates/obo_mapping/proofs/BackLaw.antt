@@ -58,7 +58,7 @@ module _ (name : Option (List ℕ)) (O : List Axiom) (is : IsSpellable name O) (
     normal = is.normal;
     formed = formed_at (law.space names [] O) (ap Rattle.iri_map.specs.Ontology.name_or_temp (one_space name));
     apart = told.names;
-    once = λ x group a b some others here there one other. told.groups x group a b some others here there (ap (λ w. Rattle.obo_statements.specs.Statements.group_spelling w x group a) (sym w_is) ∙ one) (ap (λ w. Rattle.obo_statements.specs.Statements.group_spelling w x group b) (sym w_is) ∙ other);
+    once = λ x group a b some others here there one other. told.groups x group a b some others here there (ap (λ w. Rattle.obo_statements.specs.Groups.group_spelling w x group a) (sym w_is) ∙ one) (ap (λ w. Rattle.obo_statements.specs.Groups.group_spelling w x group b) (sym w_is) ∙ other);
   }
 
   nameless : law.IsNameless names [] O

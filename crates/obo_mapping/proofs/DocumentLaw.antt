@@ -24,7 +24,7 @@ use Rattle.obo_notes.specs.Context.{Agree, Writing, reading_in, where_true, writ
 use Rattle.obo_mapping.specs.Documents.{clauses_for, declared_in, group_of, group_said, has_tag, header_with, is_header, is_truth_value, is_typedef, is_untranslatable, kept_with, names_in, owl, situation_of, spaced, space_of, spelled, text_in, word_in}
 use Rattle.obo_notes.specs.Forms.{first_part}
 use Rattle.obo_notes.specs.Notes.{form_of, rows}
-use Rattle.obo_statements.specs.Statements.{Group, group_in_body, group_spelling, group_tag, intersection, union}
+use Rattle.obo_statements.specs.Groups.{Group, group_in_body, group_spelling, group_tag, intersection, union}
 use Rattle.obo_mapping.proofs.SaidSingly.{owl_singly}
 use Rattle.obo_mapping.proofs.AxiomLaws.{Knows}
 use Rattle.obo_notes.proofs.ContextLemmas.{Agree-in}

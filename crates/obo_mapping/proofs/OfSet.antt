@@ -17,7 +17,9 @@ use Rattle.obo_notes.specs.Context.{Writing, where_true}
 use Rattle.obo_mapping.specs.Documents.{clauses_for, declared_in, group_spelled, spelled}
 use Rattle.obo_notes.specs.Forms.{first_part, note_of}
 use Rattle.obo_notes.specs.Notes.{spelling}
-use Rattle.obo_statements.specs.Statements.{Group, anchors, group_spelling, intersection, statement_spelling, union}
+use Rattle.obo_statements.specs.Statements.{statement_spelling}
+use Rattle.obo_statements.specs.Anchors.{anchors}
+use Rattle.obo_statements.specs.Groups.{Group, group_spelling, intersection, union}
 
 -- ---- tests over members
 

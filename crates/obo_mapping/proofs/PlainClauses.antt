@@ -22,7 +22,8 @@ use Rattle.obo_notes.specs.Forms.{Form, said, spelled_as}
 use Rattle.obo_notes.specs.declared.note.Note.{Note}
 use Rattle.obo_notes.specs.Keys.{is_reserved_key}
 use Rattle.obo_notes.specs.Notes.{clause_by, clause_with, form_of, meaning, qualifiers_of, rows, spelling, tags_tried, with_qualifiers}
-use Rattle.obo_statements.specs.Statements.{Statement, StatementRow, stated_plainly, statement_in, statement_meaning, statement_spelling, statements_of, value_plainly}
+use Rattle.obo_statements.specs.Values.{Statement, stated_plainly, value_plainly}
+use Rattle.obo_statements.specs.Statements.{StatementRow, statement_in, statement_meaning, statement_spelling, statements_of}
 use Rattle.obo_statements.proofs.PlainMeaning.{meant_plainly, no_reserved, plain_by, spelling_is_plain}
 use Rattle.obo_statements.proofs.StatementsBack.{all_apart, is_apart, passes_in}
 use Rattle.obo_notes.proofs.Guards.{none_from_is_none, same_bytes, where_true_some}

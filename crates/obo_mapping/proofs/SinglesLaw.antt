@@ -26,7 +26,8 @@ use Rattle.obo_notes.specs.Forms.{first_part, note_of, said}
 use Rattle.obo_notes.specs.declared.note.Note.{Note}
 use Rattle.obo_notes.specs.Notes.{form_of, meaning, rows, spelling, with_qualifiers}
 use Rattle.obo_clause.specs.declared.clause.Value.TheVariants as value
-use Rattle.obo_statements.specs.Statements.{anchors, class_anchor, statement_spelling}
+use Rattle.obo_statements.specs.Statements.{statement_spelling}
+use Rattle.obo_statements.specs.Anchors.{anchors, class_anchor}
 use Rattle.obo_mapping.proofs.AxiomLaws.{Knows, frame_back, note_said, ontology_note_said, statement_said}
 use Rattle.obo_notes.proofs.Guards.{where_true_some}
 use Rattle.obo_mapping.proofs.SetLaws.{EachSays, singles_said}

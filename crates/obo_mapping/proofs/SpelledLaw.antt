@@ -24,7 +24,8 @@ use Rattle.obo_mapping.specs.Axioms.{Framed, Situation, axiom_said, axiom_spelle
 use Rattle.obo_notes.specs.Context.{Agree, Writing, where_true}
 use Rattle.obo_mapping.specs.Documents.{clauses_for, declared_in, group_in, group_of, group_said, group_with, has_reserved_key, has_tag, is_broken, is_header, is_misfit, is_raw, is_term, is_typedef, is_untranslatable, situation_of, spelled}
 use Rattle.obo_notes.specs.Notes.{form_of, meaning}
-use Rattle.obo_statements.specs.Statements.{Group, group_in_body, group_meaning, group_operands, group_spelling, group_tag, intersection, statement_in, statement_meaning, statements_of, union}
+use Rattle.obo_statements.specs.Statements.{statement_in, statement_meaning, statements_of}
+use Rattle.obo_statements.specs.Groups.{Group, group_in_body, group_meaning, group_operands, group_spelling, group_tag, intersection, union}
 use Rattle.obo_mapping.proofs.AxiomLaws.{Knows}
 use Rattle.obo_statements.proofs.GroupsBack.{group_equates, group_reads_back}
 use Rattle.obo_notes.proofs.Guards.{same_bytes, where_true_some}
@@ -75,8 +76,8 @@ group_silent situation id clause group of =
     let statement = ap (λ t. first_some (statement_in t) (statements_of Term)) of.tag ∙ no_term_statement group in
     λ i. option_or (where_true (tag i) (Some (record { body = body.Declaration name; sides = [] })))
     (option_or (option_map (note_axiom name) (none i))
-    (option_map (λ said. record { body = said; sides = Rattle.obo_notes.specs.Notes.sorted_sides (Rattle.obo_statements.specs.Statements.annotations_of clause.qualifiers) })
-    (option_and_then (λ s. Rattle.obo_statements.specs.Statements.stated situation.reading (situation.reading.iri id) s (Rattle.obo_statements.specs.Statements.extras_of clause.qualifiers) clause.value) (statement i))))
+    (option_map (λ said. record { body = said; sides = Rattle.obo_notes.specs.Notes.sorted_sides (Rattle.obo_statements.specs.Extras.annotations_of clause.qualifiers) })
+    (option_and_then (λ s. Rattle.obo_statements.specs.Values.stated situation.reading (situation.reading.iri id) s (Rattle.obo_statements.specs.Extras.extras_of clause.qualifiers) clause.value) (statement i))))
 
 -- ---- names
 

@@ -35,7 +35,9 @@ use Rattle.obo_clause.specs.Fits.{Fits}
 use Rattle.obo_notes.specs.declared.note.Note.{Note}
 use Rattle.obo_notes.specs.Keys.{is_reserved_key}
 use Rattle.obo_notes.specs.Notes.{qualifiers_of, spelling}
-use Rattle.obo_statements.specs.Statements.{Group, anchors, class_anchor, clauses_with, group_clauses, group_in_body, group_operands, group_spelling, group_tag, intersection, operand_value, other_expr, statement_spelling, union}
+use Rattle.obo_statements.specs.Statements.{statement_spelling}
+use Rattle.obo_statements.specs.Anchors.{anchors, class_anchor}
+use Rattle.obo_statements.specs.Groups.{Group, clauses_with, group_clauses, group_in_body, group_operands, group_spelling, group_tag, intersection, operand_value, other_expr, union}
 use Rattle.obo_statements.proofs.StatementsBack.{statement_reads_back}
 use Rattle.obo_notes.proofs.NoteLaws.{note_reads_back}
 use Rattle.obo_mapping.proofs.PlainClauses.{IsNote, IsStatementIn, is_note, is_statement, note_no_reserved, statement_no_reserved}
@@ -57,22 +59,22 @@ pub record OfGroup (group : Group) (clause : Clause) : Type 0 where
 id_not_raw : (o : Option (List ℕ)) (v : Value) → option_map value.Id o ≡ Some v → is_raw v ≡ false
 id_not_raw o v is = let id = option_map_some value.Id o v is in subst (λ x. is_raw x ≡ false) id.2 refl
 
-words_not_raw : (writing : Writing) (c : ClassExpr) (v : Value) → Rattle.obo_statements.specs.Statements.restriction_words writing c ≡ Some v → is_raw v ≡ false
-unfolding Rattle.obo_statements.specs.Statements.restriction_words
+words_not_raw : (writing : Writing) (c : ClassExpr) (v : Value) → Rattle.obo_statements.specs.Restrictions.restriction_words writing c ≡ Some v → is_raw v ≡ false
+unfolding Rattle.obo_statements.specs.Restrictions.restriction_words
 words_not_raw writing c v is = by_layer (Rattle.owl_axioms.specs.declared.expr.ClassExpr.TheViews.out-ClassExpr c) is
   where
-    by_layer : (layer : Rattle.owl_axioms.specs.declared.expr.ClassExpr.TheOpen.ClassExpr-F ClassExpr) → Rattle.obo_statements.specs.Statements.words_of writing layer ≡ Some v → is_raw v ≡ false
+    by_layer : (layer : Rattle.owl_axioms.specs.declared.expr.ClassExpr.TheOpen.ClassExpr-F ClassExpr) → Rattle.obo_statements.specs.Restrictions.words_of writing layer ≡ Some v → is_raw v ≡ false
     by_layer (Rattle.owl_axioms.specs.declared.expr.ClassExpr.TheOpen.ClassExpr-F.Some role part) is =
-        let r = option_and_then_some (λ r. option_map (λ c. value.Pair r c) (Rattle.obo_statements.specs.Statements.class_id writing part)) (writing.role_id role) v is in
-        let f = option_map_some (λ c. value.Pair r.0 c) (Rattle.obo_statements.specs.Statements.class_id writing part) v r.2 in
+        let r = option_and_then_some (λ r. option_map (λ c. value.Pair r c) (Rattle.obo_statements.specs.Classes.class_id writing part)) (writing.role_id role) v is in
+        let f = option_map_some (λ c. value.Pair r.0 c) (Rattle.obo_statements.specs.Classes.class_id writing part) v r.2 in
         subst (λ x. is_raw x ≡ false) f.2 refl
     by_layer _ is = absurd (none-some v is)
 
 operand_not_raw : (writing : Writing) (group : Group) (c : ClassExpr) (v : Value) → operand_value writing group c ≡ Some v → is_raw v ≡ false
-operand_not_raw writing union c v is = id_not_raw (Rattle.obo_statements.specs.Statements.class_id writing c) v is
+operand_not_raw writing union c v is = id_not_raw (Rattle.obo_statements.specs.Classes.class_id writing c) v is
 operand_not_raw writing intersection c v is =
-    ⊎_elim (λ one. id_not_raw (Rattle.obo_statements.specs.Statements.class_id writing c) v one) (λ two. words_not_raw writing c v two)
-    (option_or_some (Rattle.obo_statements.specs.Statements.as_id (Rattle.obo_statements.specs.Statements.class_id writing c)) (Rattle.obo_statements.specs.Statements.restriction_words writing c) v is)
+    ⊎_elim (λ one. id_not_raw (Rattle.obo_statements.specs.Classes.class_id writing c) v one) (λ two. words_not_raw writing c v two)
+    (option_or_some (Rattle.obo_statements.specs.Classes.as_id (Rattle.obo_statements.specs.Classes.class_id writing c)) (Rattle.obo_statements.specs.Restrictions.restriction_words writing c) v is)
 
 clauses_of_group : (group : Group) (qs : List Qualifier) (values : List Value) → list_any (λ (q : Qualifier). is_reserved_key q.key) qs ≡ false → ((v : Value) → In v values → is_raw v ≡ false) → (clause : Clause) → In clause (group_clauses group qs values) → OfGroup group clause
 clauses_of_group group qs [] free each clause here = absurd here

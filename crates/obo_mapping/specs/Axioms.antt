@@ -20,7 +20,8 @@ use Rattle.obo_notes.specs.Context.{Reading, Writing, where_true}
 use Rattle.obo_notes.specs.Forms.{first_part, note_of}
 use Rattle.obo_notes.specs.declared.note.Note.{Note}
 use Rattle.obo_notes.specs.Notes.{meaning, spelling}
-use Rattle.obo_statements.specs.Statements.{anchors, statement_meaning, statement_spelling}
+use Rattle.obo_statements.specs.Statements.{statement_meaning, statement_spelling}
+use Rattle.obo_statements.specs.Anchors.{anchors}
 
 -- a clause in its frame, without its line
 pub record Framed : Type 0 where

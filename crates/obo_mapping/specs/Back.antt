@@ -12,7 +12,7 @@ use Rattle.obo_mapping.specs.Axioms.{Framed, name_as}
 use Rattle.obo_notes.specs.Context.{Writing, writing_in}
 use Rattle.obo_mapping.specs.Documents.{clauses_for, declared_in, header_with, name_of, owl, spaced, spelled}
 use Rattle.obo_mapping.specs.Sound.{IsSound}
-use Rattle.obo_statements.specs.Statements.{Group, group_spelling}
+use Rattle.obo_statements.specs.Groups.{Group, group_spelling}
 
 abbrev pub writing_of : Option (List ℕ) → Writing
 writing_of name = writing_in (name_or_temp name)

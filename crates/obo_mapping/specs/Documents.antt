@@ -23,7 +23,8 @@ use Rattle.obo_mapping.specs.Axioms.{Framed, Home, Situation, axiom_spelled, axi
 use Rattle.obo_notes.specs.Context.{Reading, Writing, datatype_iri, datatype_word, reading_in, where_true, writing_in}
 use Rattle.obo_notes.specs.Forms.{first_part}
 use Rattle.obo_notes.specs.Keys.{is_reserved_key, key_of, key_property}
-use Rattle.obo_statements.specs.Statements.{Group, group_meaning, group_spelling, group_tag, intersection, statement_in, statements_of, union}
+use Rattle.obo_statements.specs.Statements.{statement_in, statements_of}
+use Rattle.obo_statements.specs.Groups.{Group, group_meaning, group_spelling, group_tag, intersection, union}
 use Rattle.obo_notes.specs.Vocabulary.{own_property}
 
 -- ---- what a document says of names

@@ -9,7 +9,7 @@ use Rattle.owl_axioms.specs.Text.{expr_text}
 use Rattle.owl_axioms.specs.declared.expr.ClassExpr.{ClassExpr}
 use Rattle.obo_mapping.specs.Axioms.{Framed, framed, id_clause}
 use Rattle.obo_mapping.specs.Documents.{group_in, group_of, has_tag, is_header, is_raw, situation_of}
-use Rattle.obo_statements.specs.Statements.{Group, operand_plainly}
+use Rattle.obo_statements.specs.Groups.{Group, operand_plainly}
 
 pub record IsSound (d : List Framed) : Type 0 where
   pub fits : (f : Framed) → In f d → Fits f.frame (has_tag (codes "id") f && not (is_raw f.clause.value)) f.clause

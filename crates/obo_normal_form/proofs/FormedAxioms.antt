@@ -45,7 +45,12 @@ use Rattle.obo_notes.specs.Forms.{first_part}
 use Rattle.obo_notes.specs.Keys.{is_reserved_key, side_of_qualifier}
 use Rattle.obo_notes.specs.Notes.{qualifiers_of, sorted_sides}
 use Rattle.obo_mapping.specs.Sound.{IsSound}
-use Rattle.obo_statements.specs.Statements.{Group, Statement, StatementRow, anchors, class_anchor, class_entity, class_id, class_iri, class_named, class_read, clauses_with, expr_pair, group_clauses, group_expr, group_in_body, group_meaning, group_operands, group_spelling, group_tag, intersection, is_class, operand_plainly, operand_value, operands_in, other_expr, restriction, restriction_words, stated_plainly, statement_by, statement_in, statement_spelling, statements_of, union, value_plainly}
+use Rattle.obo_statements.specs.Classes.{class_id, class_iri, class_named, class_read, is_class}
+use Rattle.obo_statements.specs.Restrictions.{restriction, restriction_words}
+use Rattle.obo_statements.specs.Values.{Statement, stated_plainly, value_plainly}
+use Rattle.obo_statements.specs.Statements.{StatementRow, statement_in, statement_spelling, statements_of}
+use Rattle.obo_statements.specs.Anchors.{anchors, class_anchor, class_entity}
+use Rattle.obo_statements.specs.Groups.{Group, clauses_with, expr_pair, group_clauses, group_expr, group_in_body, group_operands, group_spelling, group_tag, intersection, operand_plainly, operand_value, operands_in, other_expr, union}
 use Rattle.obo_normal_form.proofs.FormedNotes.{HasForm, agree, all_not_six, declaration_formed, entity_iri, formed_by, frame_id_some, frame_of_entity, header_note_formed, note_formed, or_first, spacing_formed}
 use Rattle.obo_normal_form.proofs.FormedStatements.{OfQualifier, anchor_kind, class_anchor_named, class_read_some, clean_of, covers_at, iri_named, is_class_named, named_proper, order_total, restriction_proper, restriction_some, sides_some, some_map, then_some}
 use Rattle.obo_notes.proofs.Guards.{same_bytes, where_true_some}

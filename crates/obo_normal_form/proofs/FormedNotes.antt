@@ -41,7 +41,7 @@ use Rattle.obo_notes.specs.Forms.{Form, literal, note_of, said}
 use Rattle.obo_notes.specs.Keys.{is_reserved_key, side_of_qualifier}
 use Rattle.obo_notes.specs.Notes.{form_of, meaning, rows, spelling, with_qualifiers}
 use Rattle.obo_mapping.specs.Sound.{IsSound}
-use Rattle.obo_statements.specs.Statements.{intersection, union}
+use Rattle.obo_statements.specs.Groups.{intersection, union}
 use Rattle.obo_notes.specs.Vocabulary.{own_property}
 use Rattle.obo_statements.proofs.StatementsBack.{id_has_no_form}
 use Rattle.obo_notes.proofs.ContextLemmas.{Agree-in}
@@ -341,7 +341,7 @@ module _ (d : List Framed) (sound : IsSound d) where
           of_value is.note.property is.note.value is.note.sides (note_text S.reading f.clause is.note (fit_of (shape_at f.frame false f.clause.tag) f.clause.value fits.value) is.means) (ap default_in is.says ∙ has)
       from_case a f among has (inr (inr (inr is))) = absurd (statement_no_default a a.body (source.stated_statement S.reading f.frame is.name.iri f.clause a is.means) has)
 
-      pair_no_default : (c e : Rattle.owl_axioms.specs.declared.expr.ClassExpr.ClassExpr) (b : Body) (sides : List Rattle.owl_axioms.specs.declared.annotation.Side.Side) → Rattle.obo_statements.specs.Statements.expr_pair c e ≡ b → default_in (record { body = b; sides = sides }) ≡ Some text → ⊥
+      pair_no_default : (c e : Rattle.owl_axioms.specs.declared.expr.ClassExpr.ClassExpr) (b : Body) (sides : List Rattle.owl_axioms.specs.declared.annotation.Side.Side) → Rattle.obo_statements.specs.Groups.expr_pair c e ≡ b → default_in (record { body = b; sides = sides }) ≡ Some text → ⊥
       pair_no_default c e b sides is has =
           ⊎_elim
           (λ yes. none-some text (ap (λ (x : Body). default_in (record { body = x; sides = sides })) (sym (cond-true _ (body.Equiv c e) (body.Equiv e c) yes) ∙ is) ∙ has))

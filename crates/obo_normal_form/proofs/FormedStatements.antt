@@ -35,7 +35,10 @@ use Rattle.obo_mapping.specs.Axioms.{name_as}
 use Rattle.obo_notes.specs.Context.{Agree, Reading, Writing, where_true}
 use Rattle.obo_notes.specs.Keys.{is_reserved_key, qualifier_of, side_of_qualifier}
 use Rattle.obo_notes.specs.Notes.{qualifiers_of, sorted_sides}
-use Rattle.obo_statements.specs.Statements.{Character, Statement, StatementRow, anchors, class_anchor, class_entity, class_id, class_iri, class_named, class_read, disjoint_classes, is_class, other_class, other_of, pair_of, restriction, restriction_words, role_entity, same_classes, stated_plainly, statement_by, statement_in, statement_spelling, statements_of, value_plainly, words_of, transitive, reflexive, symmetric, asymmetric, functional, inverse_functional}
+use Rattle.obo_statements.specs.Classes.{class_id, class_iri, class_named, class_read, is_class}
+use Rattle.obo_statements.specs.Restrictions.{restriction, restriction_words, words_of}
+use Rattle.obo_statements.specs.Values.{Character, Statement, asymmetric, disjoint_classes, functional, inverse_functional, other_class, other_of, pair_of, reflexive, same_classes, stated_plainly, symmetric, transitive, value_plainly}
+use Rattle.obo_statements.specs.Anchors.{anchors, class_anchor, class_entity}
 use Rattle.obo_notes.proofs.Guards.{same_bytes}
 use Rattle.obo_notes.proofs.KeyCovers.{qualifier_covered}
 use Rattle.obo_notes.proofs.PartCovers.{some_value}
@@ -285,7 +288,7 @@ module _ (reading : Reading) (writing : Writing) (agree : Agree reading writing)
   AllCovered x s None = Unit {0}
   AllCovered x s (Some b) = Covers (anchor_kind s) x s b
 
-  character_covered : (x : List ℕ) → IsNamed x → (c : Character) → Covers kinds.Role x (Statement.has_character c) (Rattle.obo_statements.specs.Statements.character_body c x)
+  character_covered : (x : List ℕ) → IsNamed x → (c : Character) → Covers kinds.Role x (Statement.has_character c) (Rattle.obo_statements.specs.Values.character_body c x)
   unfolding value_plainly anchors is_proper_body
   character_covered x nx transitive = single kinds.Role x (Statement.has_character transitive) (body.Transitive x) refl (where_some (bytes_eq x x) _ (bytes_eq-refl x) refl) (named_clean x nx)
   character_covered x nx reflexive = single kinds.Role x (Statement.has_character reflexive) (body.Reflexive x) refl (where_some (bytes_eq x x) _ (bytes_eq-refl x) refl) (named_clean x nx)

@@ -29,7 +29,9 @@ use Rattle.obo_mapping.specs.Documents.{group_in, group_of, is_untranslatable, o
 use Rattle.obo_notes.specs.Keys.{side_of_qualifier}
 use Rattle.obo_notes.specs.Notes.{qualifiers_of, sorted_sides}
 use Rattle.obo_statements.proofs.PlainMeaning.{grouped_plainly}
-use Rattle.obo_statements.specs.Statements.{Character, Group, Statement, class_named, clauses_with, expr_pair, group_clauses, group_expr, group_in_body, group_meaning, group_operands, group_spelling, intersection, is_class, operand_plainly, operand_value, other_expr, pair_of, stated_plainly, union, transitive, reflexive, symmetric, asymmetric, functional, inverse_functional}
+use Rattle.obo_statements.specs.Classes.{class_named, is_class}
+use Rattle.obo_statements.specs.Values.{Character, Statement, asymmetric, functional, inverse_functional, pair_of, reflexive, stated_plainly, symmetric, transitive}
+use Rattle.obo_statements.specs.Groups.{Group, clauses_with, expr_pair, group_clauses, group_expr, group_in_body, group_meaning, group_operands, group_spelling, intersection, operand_plainly, operand_value, other_expr, union}
 use Rattle.obo_statements.proofs.GroupLaws.{class_named-text, group_is_no_class, whole_of}
 use Rattle.obo_notes.proofs.Guards.{where_true_some}
 use Rattle.obo_normal_form.proofs.OwlCases.{IsSaidBy, IsSpaced, SaidCase, grouped_by, owl_cases, said_cases, stated_by}
@@ -142,8 +144,8 @@ stated_none : (reading : Reading) (x : List ℕ) (statement : Statement) (v : Va
 unfolding stated_plainly
 stated_none reading x Statement.below_class (value.Id id) = λ w y g sides cs is. none-some cs is
 stated_none reading x Statement.restricted (value.Pair role id) = λ w y g sides cs is. none-some cs is
-stated_none reading x Statement.same_class (value.Id id) = pair_has_none Rattle.obo_statements.specs.Statements.same_classes x (reading.iri id) (λ a b w y g sides cs is. classes_no_group w y g sides a b cs is)
-stated_none reading x Statement.disjoint_class (value.Id id) = pair_has_none Rattle.obo_statements.specs.Statements.disjoint_classes x (reading.iri id) (λ a b w y g sides cs is. none-some cs is)
+stated_none reading x Statement.same_class (value.Id id) = pair_has_none Rattle.obo_statements.specs.Values.same_classes x (reading.iri id) (λ a b w y g sides cs is. classes_no_group w y g sides a b cs is)
+stated_none reading x Statement.disjoint_class (value.Id id) = pair_has_none Rattle.obo_statements.specs.Values.disjoint_classes x (reading.iri id) (λ a b w y g sides cs is. none-some cs is)
 stated_none reading x Statement.below_role (value.Id id) = λ w y g sides cs is. none-some cs is
 stated_none reading x Statement.same_role (value.Id id) = pair_has_none body.EquivRoles x (reading.role_iri id) (λ a b w y g sides cs is. none-some cs is)
 stated_none reading x Statement.disjoint_role (value.Id id) = pair_has_none body.DisjointRoles x (reading.role_iri id) (λ a b w y g sides cs is. none-some cs is)

@@ -27,7 +27,8 @@ use Rattle.obo_mapping.specs.Documents.{as_kept, declared_in, group_in, group_of
 use Rattle.obo_notes.specs.Forms.{first_part}
 use Rattle.obo_notes.specs.Notes.{form_of}
 use Rattle.obo_mapping.specs.Sound.{IsSound}
-use Rattle.obo_statements.specs.Statements.{Group, group_spelling, group_tag, intersection, statement_in, statements_of, union}
+use Rattle.obo_statements.specs.Statements.{statement_in, statements_of}
+use Rattle.obo_statements.specs.Groups.{Group, group_spelling, group_tag, intersection, union}
 use Rattle.obo_notes.proofs.ContextLemmas.{Agree-in}
 use Rattle.obo_mapping.proofs.SaidSingly.{owl_singly}
 use Rattle.obo_mapping.proofs.DocumentLaw as law
@@ -334,7 +335,7 @@ module _ (d : List Framed) (sound : IsSound d) (formed : (a : Axiom) → In a (o
       let header = header_entity S' one.frame f.id one.clause b.0 in
       let none = no_note S'.reading f.clause (ap form_of (tag one ∙ same_bytes one.clause.tag (codes "import") b.1) ∙ import_no_form) in (
         ap (said_at S' f) header.0 ∙ ap (option_map ontology_axiom) none,
-        λ i. Rattle.std.specs.Option.option_and_then (λ group. Rattle.obo_statements.specs.Statements.group_meaning S'.reading (S'.reading.iri f.id) group (map (λ (each : Framed). each.clause) (group_in S' D (S'.reading.iri f.id) group)))
+        λ i. Rattle.std.specs.Option.option_and_then (λ group. Rattle.obo_statements.specs.Groups.group_meaning S'.reading (S'.reading.iri f.id) group (map (λ (each : Framed). each.clause) (group_in S' D (S'.reading.iri f.id) group)))
             (where_true (header.1 i && not (is_raw f.clause.value)) (group_with f.clause.tag)),
       )
 

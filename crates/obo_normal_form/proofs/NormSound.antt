@@ -209,9 +209,9 @@ frame_id_word space name id is = by_kind name.kind is
 plain_first : (f : Framed) → bytes_eq f.clause.tag (codes "id") ≡ false → Fits f.frame false f.clause → Fits f.frame (has_tag (codes "id") f && not (is_raw f.clause.value)) f.clause
 plain_first f no_id fits = subst (λ b. Fits f.frame b f.clause) (sym (λ i. no_id i && not (is_raw f.clause.value))) fits
 
-no_id_group : (g : Rattle.obo_statements.specs.Statements.Group) → bytes_eq (Rattle.obo_statements.specs.Statements.group_tag g) (codes "id") ≡ false
-no_id_group Rattle.obo_statements.specs.Statements.intersection = refl
-no_id_group Rattle.obo_statements.specs.Statements.union = refl
+no_id_group : (g : Rattle.obo_statements.specs.Groups.Group) → bytes_eq (Rattle.obo_statements.specs.Groups.group_tag g) (codes "id") ≡ false
+no_id_group Rattle.obo_statements.specs.Groups.intersection = refl
+no_id_group Rattle.obo_statements.specs.Groups.union = refl
 
 -- ---- the normal form
 

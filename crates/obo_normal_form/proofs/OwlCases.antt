@@ -25,7 +25,9 @@ use Rattle.obo_mapping.specs.Documents.{declared_in, default_in, group_of, group
 use Rattle.obo_notes.specs.declared.note.Note.{Note}
 use Rattle.obo_notes.specs.Notes.{meaning}
 use Rattle.obo_mapping.specs.Sound.{IsSound}
-use Rattle.obo_statements.specs.Statements.{Group, Statement, character_body, expr_pair, group_expr, group_meaning, pair_of, stated_plainly, statement_in, statement_meaning, statements_of, transitive, reflexive, symmetric, asymmetric, functional, inverse_functional, Character}
+use Rattle.obo_statements.specs.Values.{Character, Statement, asymmetric, character_body, functional, inverse_functional, pair_of, reflexive, stated_plainly, symmetric, transitive}
+use Rattle.obo_statements.specs.Statements.{statement_in, statement_meaning, statements_of}
+use Rattle.obo_statements.specs.Groups.{Group, expr_pair, group_expr, group_meaning}
 use Rattle.obo_notes.proofs.Guards.{same_bytes, where_true_some}
 use Rattle.obo_mapping.proofs.SaidSingly.{owl_singly}
 use Rattle.obo_statements.proofs.PlainMeaning.{grouped_plainly, meant_plainly}
@@ -107,8 +109,8 @@ stated_one : (reading : Reading) (x : List ℕ) (statement : Statement) (v : Val
 unfolding stated_plainly
 stated_one reading x Statement.below_class (value.Id id) = tt
 stated_one reading x Statement.restricted (value.Pair role id) = tt
-stated_one reading x Statement.same_class (value.Id id) = pair_is IsStatement Rattle.obo_statements.specs.Statements.same_classes x (reading.iri id) (λ a b. tt)
-stated_one reading x Statement.disjoint_class (value.Id id) = pair_is IsStatement Rattle.obo_statements.specs.Statements.disjoint_classes x (reading.iri id) (λ a b. tt)
+stated_one reading x Statement.same_class (value.Id id) = pair_is IsStatement Rattle.obo_statements.specs.Values.same_classes x (reading.iri id) (λ a b. tt)
+stated_one reading x Statement.disjoint_class (value.Id id) = pair_is IsStatement Rattle.obo_statements.specs.Values.disjoint_classes x (reading.iri id) (λ a b. tt)
 stated_one reading x Statement.below_role (value.Id id) = tt
 stated_one reading x Statement.same_role (value.Id id) = pair_is IsStatement body.EquivRoles x (reading.role_iri id) (λ a b. tt)
 stated_one reading x Statement.disjoint_role (value.Id id) = pair_is IsStatement body.DisjointRoles x (reading.role_iri id) (λ a b. tt)
@@ -252,7 +254,7 @@ module _ (d : List Framed) where
 
   no_declaration : (reading : Reading) (x : List ℕ) (group : Group) (cs : List Clause) (a : Axiom) (name : Name) → group_meaning reading x group cs ≡ Some a → a.body ≡ body.Declaration name → ⊥
   no_declaration reading x group cs a name is says =
-      let made = option_map_some _ (Rattle.text_sets.specs.Parts.each_some (λ (clause : Clause). Rattle.obo_statements.specs.Statements.operand_plainly reading group clause.value) cs) a (grouped_plainly reading x group cs a is) in
+      let made = option_map_some _ (Rattle.text_sets.specs.Parts.each_some (λ (clause : Clause). Rattle.obo_statements.specs.Groups.operand_plainly reading group clause.value) cs) a (grouped_plainly reading x group cs a is) in
       pair_declares _ (group_expr group _) (ap (λ (b : Axiom). b.body) made.2 ∙ says)
     where
       never : (said : Body) → (c e : ClassExpr) → said ≡ body.Equiv c e → said ≡ body.Declaration name → ⊥

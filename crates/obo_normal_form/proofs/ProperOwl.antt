@@ -1,5 +1,5 @@
 -- The axioms of a sound document are proper, have forms, and no name stands for two.
-use Rattle.std.proofs.Common.{◌≡◌, ℕ, Bool, true, ◌&&◌, List, [], ◌∷◌, ◌++◌, codes, map, Option, None, Some, inl, inr, ⊎_elim, refl, sym, ap, subst, ◌∙◌}
+use Rattle.std.proofs.Common.{◌≡◌, ℕ, Bool, true, false, if◌then◌else◌, ◌&&◌, List, [], ◌∷◌, ◌++◌, codes, map, Option, None, Some, inl, inr, ⊎_elim, refl, sym, ap, subst, ◌∙◌}
 use Rattle.std.specs.List.{AllPass, flat_map, list_all}
 use Rattle.std.specs.Option.{IsSome, option_and_then, option_map, option_to_list}
 use Rattle.std.specs.Str.{bytes_eq}
@@ -32,14 +32,15 @@ use Rattle.text_sets.proofs.PartLemmas.{first_some-found, option_and_then_some, 
 use Rattle.text_sets.proofs.SortedLemmas.{sorted_by-only}
 use Rattle.obo_mapping.specs.Axioms.{Framed, Situation, axiom_said, entity_of}
 use Rattle.obo_mapping.specs.Back.{OwlIsSpellable}
-use Rattle.obo_notes.specs.Context.{Agree, Reading, Writing, datatype_by, datatype_iri, where_true, writing_in, xsd_prefix}
+use Rattle.obo_notes.specs.Context.{Agree, Reading, Writing, datatype_by, datatype_iri, is_text, where_true, writing_in, xsd_prefix}
 use Rattle.obo_mapping.specs.Documents.{declared_in, has_tag, is_header, name_of, names_in, owl, situation_of, space_of, word_in}
 use Rattle.obo_notes.specs.Forms.{Form, literal, said, synonym_property}
 use Rattle.obo_notes.specs.declared.note.Note.{Note}
 use Rattle.obo_notes.specs.Keys.{side_of_qualifier}
 use Rattle.obo_notes.specs.Notes.{Row, form_in, form_of, meaning, rows, sorted_sides, with_qualifiers}
 use Rattle.obo_mapping.specs.Sound.{IsSound}
-use Rattle.obo_statements.specs.Statements.{Group, class_named, expr_pair, group_expr, group_meaning, operand_plainly}
+use Rattle.obo_statements.specs.Classes.{class_named}
+use Rattle.obo_statements.specs.Groups.{Group, expr_pair, group_expr, group_meaning, operand_plainly}
 use Rattle.obo_notes.specs.Vocabulary.{iao_definition, iao_replaced_by, obo_in_owl, owl_deprecated, rdfs_comment, xsd, xsd_boolean, xsd_string}
 use Rattle.obo_statements.proofs.PlainMeaning.{grouped_plainly}
 use Rattle.obo_statements.proofs.StatementsBack.{passes_in}
@@ -109,6 +110,10 @@ xsd_clean local =
     list_all-from_AllPass is_iri_byte (xsd ++ escaped_part local)
     (All-append (λ b. is_iri_byte b ≡ true) xsd (escaped_part local) xsd_is_clean (AllPass-escaped_part is_iri_byte refl part_byte local))
 
+either_clean : (test : Bool) (one other : List ℕ) → is_clean_iri one ≡ true → is_clean_iri other ≡ true → is_clean_iri (if test then one else other) ≡ true
+either_clean true one other is also = is
+either_clean false one other is also = also
+
 module _ (reading : Reading) (writing : Writing) (agree : Agree reading writing) where
   clean_iri : (id : List ℕ) → is_clean_iri (reading.iri id) ≡ true
   clean_iri id = subst (λ i. is_clean_iri i ≡ true) (agree.clean id).1 (clean_url (reading.iri id))
@@ -119,7 +124,7 @@ module _ (reading : Reading) (writing : Writing) (agree : Agree reading writing)
     where
       by_local : (o : Option (List ℕ)) → is_clean_iri (datatype_by reading word o) ≡ true
       by_local None = clean_iri word
-      by_local (Some local) = xsd_clean local
+      by_local (Some name) = either_clean (is_text name) (xsd ++ escaped_part name) (reading.iri word) (xsd_clean name) (clean_iri word)
 
   abbrev SaidProper : Option Note → Type 0
   SaidProper None = Unit {0}

@@ -32,11 +32,13 @@ use Rattle.obo_notes.specs.Context.{Agree, Reading, Writing, writing_in}
 use Rattle.obo_normal_form.proofs.SettleLaws as settle
 use Rattle.obo_notes.proofs.Guards.{same_bytes, where_true_some}
 use Rattle.obo_mapping.specs.Documents.{as_kept, is_import, settled, settled_value, space_of}
-use Rattle.obo_statements.specs.Statements.{group_spelling, restriction}
+use Rattle.obo_statements.specs.Restrictions.{restriction}
+use Rattle.obo_statements.specs.Groups.{group_spelling}
 use Rattle.obo_mapping.specs.Documents.{group_in, group_of, group_said, group_with, has_tag, header_with, is_header, is_raw, is_term, is_untranslatable, kept, names_in, norm, owl, situation_of, spelled}
 use Rattle.obo_normal_form.specs.NormLaws.{NormIsSound}
 use Rattle.obo_mapping.specs.Sound.{IsFramed, IsSound}
-use Rattle.obo_statements.specs.Statements.{Group, class_named, expr_pair, group_expr, group_meaning, group_tag, intersection, operand_plainly, union}
+use Rattle.obo_statements.specs.Classes.{class_named}
+use Rattle.obo_statements.specs.Groups.{Group, expr_pair, group_expr, group_meaning, group_tag, intersection, operand_plainly, union}
 use Rattle.obo_statements.proofs.PlainMeaning.{grouped_plainly}
 use Rattle.obo_mapping.proofs.DocumentLaw as law
 use Rattle.obo_normal_form.proofs.FormedAxioms.{formed}

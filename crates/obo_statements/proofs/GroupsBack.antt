@@ -1,6 +1,5 @@
 -- The clauses of a group say its axiom, also in another order.
-use Rattle.std.proofs.Common.{◌≡◌, ◌⊎◌, ◌&&◌, ℕ, true, false, List, [], ◌∷◌, Option, Some, map, inl, inr, ⊎_elim, refl, sym, ap, subst, ◌∙◌}
-use Rattle.std.specs.List.{list_any}
+use Rattle.std.proofs.Common.{◌≡◌, ◌&&◌, ℕ, true, List, [], ◌∷◌, Some, ⊎_elim, refl, sym, ap, subst, ◌∙◌}
 use Rattle.std.specs.Option.{option_and_then, option_map}
 use Rattle.std.proofs.lemmas.Bool.{and_parts}
 use Rattle.std.proofs.lemmas.Option.{none-some}
@@ -21,9 +20,9 @@ use Rattle.text_sets.specs.Sorted.{Rises, sorted_by}
 use Rattle.text_sets.proofs.PartLemmas.{option_and_then_some, option_map_some}
 use Rattle.text_sets.proofs.SetLemmas.{In-from_map}
 use Rattle.obo_notes.specs.Context.{Agree, Reading, Writing}
-use Rattle.obo_notes.specs.Keys.{is_reserved_key}
 use Rattle.obo_notes.specs.Notes.{qualifiers_of}
-use Rattle.obo_statements.specs.Statements.{Group, clauses_with, extras_of, group_clauses, group_in_body, group_meaning, group_operands, group_spelling, group_tag, operand_value, other_expr}
+use Rattle.obo_statements.specs.Extras.{extras_of}
+use Rattle.obo_statements.specs.Groups.{Group, clauses_with, group_clauses, group_in_body, group_meaning, group_operands, group_spelling, group_tag, operand_value, other_expr}
 use Rattle.obo_statements.proofs.GroupLaws.{IsRising, group_has_clause, group_reads_set}
 use Rattle.obo_statements.proofs.PlainMeaning.{group_is_plain, no_extras, no_reserved}
 use Rattle.obo_statements.proofs.Rising.{group_rises}

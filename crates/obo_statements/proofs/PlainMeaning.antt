@@ -22,7 +22,11 @@ use Rattle.obo_notes.specs.Context.{Reading, Writing}
 use Rattle.obo_notes.specs.Keys.{is_reserved_key, key_of, plain_text, qualifier_of, side_of_qualifier}
 use Rattle.obo_notes.specs.Notes.{qualifiers_of, sorted_sides}
 use Rattle.obo_notes.proofs.KeyLemmas.{key_of-back}
-use Rattle.obo_statements.specs.Statements.{Group, Statement, StatementRow, Worded, annotations_of, class_named, expr_pair, extras_of, group_expr, group_meaning, operand_of, operand_plainly, operand_read, stated, stated_plainly, statement_by, statement_in, statement_meaning, statement_spelling, statements_of, value_plainly, value_stating, worded_plainly}
+use Rattle.obo_statements.specs.Classes.{class_named}
+use Rattle.obo_statements.specs.Extras.{Worded, annotations_of, extras_of, worded_plainly}
+use Rattle.obo_statements.specs.Values.{stated, stated_plainly, value_plainly, value_stating}
+use Rattle.obo_statements.specs.Statements.{StatementRow, statement_by, statement_in, statement_meaning, statement_spelling, statements_of}
+use Rattle.obo_statements.specs.Groups.{Group, expr_pair, group_expr, group_meaning, operand_of, operand_plainly, operand_read}
 
 -- ---- qualifiers of spelled clauses have no key with a meaning of its own
 
@@ -110,7 +114,7 @@ then_map f g (Some x) = refl
 row_is_plain : (writing : Writing) (x : List ℕ) (one : Axiom) (row : StatementRow) → statement_by writing x one row ≡ plain_by writing x one row
 unfolding value_stating
 row_is_plain writing x one row =
-    then_map (λ (worded : Worded). option_map (λ qualifiers. let c : Clause = record { tag = row.tag; value = worded.value; qualifiers = qualifiers } in c) (Rattle.obo_statements.specs.Statements.qualifiers_with worded.extras one.sides))
+    then_map (λ (worded : Worded). option_map (λ qualifiers. let c : Clause = record { tag = row.tag; value = worded.value; qualifiers = qualifiers } in c) (Rattle.obo_statements.specs.Extras.qualifiers_with worded.extras one.sides))
     worded_plainly (value_plainly writing x row.statement one.body)
 
 pub spelling_is_plain : (writing : Writing) (kind : FrameKind) (x : List ℕ) (one : Axiom) → statement_spelling writing kind x one ≡ plain_spelling writing kind x one

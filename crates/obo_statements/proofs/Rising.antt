@@ -11,7 +11,7 @@ use Rattle.owl_axioms.specs.declared.expr.ClassExpr.TheOpen.{ClassExpr-F}
 use Rattle.owl_axioms.specs.declared.expr.ClassExpr.TheFolds.{para-roll-ClassExpr}
 use Rattle.owl_axioms.specs.declared.expr.ClassExpr.TheViews.{out-ClassExpr, roll-ClassExpr, roll-out-ClassExpr}
 use Rattle.text_sets.specs.Sorted.{Rises}
-use Rattle.obo_statements.specs.Statements.{Group, group_operands, intersection, operands_in, union}
+use Rattle.obo_statements.specs.Groups.{Group, group_operands, intersection, operands_in, union}
 use Rattle.obo_statements.proofs.GroupLaws.{Rises-from_test}
 
 abbrev Tested : ClassExpr → ClassExpr × Bool

@@ -37,7 +37,11 @@ use Rattle.text_sets.proofs.SortedLemmas.{sorted_by-only}
 use Rattle.obo_notes.specs.Context.{Agree, Reading, Writing, where_true}
 use Rattle.obo_notes.specs.Keys.{qualifier_of}
 use Rattle.obo_notes.specs.Notes.{qualifiers_of}
-use Rattle.obo_statements.specs.Statements.{Group, Statement, StatementRow, class_id, clauses_with, group_clauses, group_in_body, group_operands, group_spelling, group_tag, intersection, operand_value, other_class, other_expr, other_of, restriction_words, statement_by, statement_spelling, statements_of, union, value_plainly, transitive, reflexive, symmetric, asymmetric, functional, inverse_functional}
+use Rattle.obo_statements.specs.Classes.{class_id}
+use Rattle.obo_statements.specs.Restrictions.{restriction_words}
+use Rattle.obo_statements.specs.Values.{Statement, asymmetric, functional, inverse_functional, other_class, other_of, reflexive, symmetric, transitive, value_plainly}
+use Rattle.obo_statements.specs.Statements.{StatementRow, statement_spelling, statements_of}
+use Rattle.obo_statements.specs.Groups.{Group, clauses_with, group_clauses, group_in_body, group_operands, group_spelling, group_tag, intersection, operand_value, other_expr, union}
 use Rattle.obo_notes.proofs.Guards.{where_true_some}
 use Rattle.obo_notes.proofs.NoteLaws.{each_fits}
 use Rattle.obo_statements.proofs.PlainMeaning.{plain_by, spelling_is_plain}

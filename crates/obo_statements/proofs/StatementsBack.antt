@@ -3,8 +3,7 @@ use Rattle.std.proofs.Common.{◌≡◌, ℕ, Bool, true, false, not, ◌&&◌, 
 use Rattle.std.specs.List.{list_all, list_any}
 use Rattle.std.specs.Option.{is_none, option_and_then, option_map, option_or}
 use Rattle.std.specs.Str.{bytes_eq}
-use Rattle.std.proofs.lemmas.Bool.{and_parts, cond-false, cond-true, false_from_ne_true, not-true, or_parts}
-use Rattle.std.proofs.lemmas.Option.{none-some}
+use Rattle.std.proofs.lemmas.Bool.{and_parts, cond-false, cond-true, not-true, or_parts}
 use Rattle.std.proofs.Common.{append_assoc}
 use Rattle.iri_map.proofs.CandidateLemmas.{bytes_eq-refl}
 use Rattle.obo_tags.specs.declared.kind.FrameKind.{FrameKind}
@@ -15,21 +14,17 @@ use Rattle.text_sets.specs.Sets.{In}
 use Rattle.owl_axioms.specs.Proper.{is_proper_body}
 use Rattle.owl_axioms.specs.Text.{side_text}
 use Rattle.owl_axioms.specs.declared.body.Axiom.{Axiom}
-use Rattle.owl_axioms.specs.declared.body.Body.TheVariants as body
-use Rattle.owl_axioms.specs.declared.name.Kind.{Kind}
-use Rattle.owl_axioms.specs.declared.name.Kind.TheVariants as kinds
-use Rattle.owl_axioms.specs.declared.name.Name.{Name}
 use Rattle.text_sets.specs.Parts.{first_some}
 use Rattle.text_sets.specs.Sorted.{Rises}
 use Rattle.text_sets.proofs.PartLemmas.{first_some-found, option_and_then_some, option_map_some, option_cases}
-use Rattle.obo_notes.specs.Context.{Agree, Reading, Writing, where_true}
+use Rattle.obo_notes.specs.Context.{Agree, Reading, Writing}
 use Rattle.obo_notes.specs.Forms.{said}
-use Rattle.obo_notes.specs.declared.note.Note.{Note}
 use Rattle.obo_notes.specs.Keys.{side_of_qualifier}
-use Rattle.obo_notes.specs.Notes.{form_of, meaning, qualifiers_of, rows, sorted_sides, spelling, with_qualifiers}
-use Rattle.obo_statements.specs.Statements.{StatementRow, stated_plainly, statement_by, statement_in, statement_meaning, statement_spelling, statements_of, value_plainly}
+use Rattle.obo_notes.specs.Notes.{form_of, meaning, qualifiers_of, rows, sorted_sides, with_qualifiers}
+use Rattle.obo_statements.specs.Values.{stated_plainly, value_plainly}
+use Rattle.obo_statements.specs.Statements.{StatementRow, statement_in, statement_meaning, statement_spelling, statements_of}
 use Rattle.obo_notes.proofs.Guards.{same_bytes, where_true_some}
-use Rattle.obo_notes.proofs.NoteLaws.{note_reads_back, same_sides}
+use Rattle.obo_notes.proofs.NoteLaws.{same_sides}
 use Rattle.obo_statements.proofs.PlainMeaning.{meaning_is_plain, no_extras, no_reserved, plain_by, spelling_is_plain}
 use Rattle.obo_statements.proofs.StatementLaws.{statement-back}
 

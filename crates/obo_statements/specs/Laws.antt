@@ -10,7 +10,8 @@ use Rattle.owl_axioms.specs.declared.body.Axiom.{Axiom}
 use Rattle.text_sets.specs.Sets.{In, SameMembers}
 use Rattle.text_sets.specs.Sorted.{Rises}
 use Rattle.obo_notes.specs.Context.{reading_in, writing_in}
-use Rattle.obo_statements.specs.Statements.{Group, group_meaning, group_spelling, statement_meaning, statement_spelling}
+use Rattle.obo_statements.specs.Statements.{statement_meaning, statement_spelling}
+use Rattle.obo_statements.specs.Groups.{Group, group_meaning, group_spelling}
 
 -- the clause of a statement states it, in an ontology of this name, or with this one in its place
 abbrev pub StatementReadsBackIn : List ℕ → Type 0
