@@ -144,3 +144,7 @@ axiom_proper given sides made proper all is =
 pub if_ok_map : {A E : Type 0} (P Q : A → Type 0) (r : Result A E) → ((x : A) → P x → Q x) → IfOk r P → IfOk r Q
 if_ok_map P Q (Ok x) more found = more x found
 if_ok_map P Q (Err e) more found = tt
+
+pub if_ok_both : {A E : Type 0} (P Q S : A → Type 0) (r : Result A E) → ((x : A) → P x → Q x → S x) → IfOk r P → IfOk r Q → IfOk r S
+if_ok_both P Q S (Ok x) more one other = more x one other
+if_ok_both P Q S (Err e) more one other = tt

@@ -9,6 +9,7 @@ mod class;
 mod expr;
 mod laws;
 mod make;
+mod make_axiom;
 mod name;
 mod naming;
 mod sig;
@@ -26,6 +27,7 @@ pub use laws::{
     class_has_iri, equality_is_sameness, iri_leads_back, text_tells_expr, text_tells_side,
 };
 pub use make::{and_of, or_of};
+pub use make_axiom::axiom_of;
 pub use name::{Kind, Name};
 pub use naming::{is_signed, sig_of};
 pub use sig::Sig;
