@@ -19,12 +19,12 @@ unfolding added
 added_append s [] ys = refl
 added_append s (x ∷ xs) ys = added_append (add_name s x.kind x.iri) xs ys
 
-take_suc : {X : Type 0} (xs : List X) (i : ℕ) (x : X) → slice_get xs i ≡ Some x → take (suc i) xs ≡ take i xs ++ x ∷ []
+pub take_suc : {X : Type 0} (xs : List X) (i : ℕ) (x : X) → slice_get xs i ≡ Some x → take (suc i) xs ≡ take i xs ++ x ∷ []
 take_suc [] i x h = absurd (none_there h)
 take_suc (y ∷ xs) zero x h = ap (λ w. w ∷ []) (same_there h)
 take_suc (y ∷ xs) (suc i) x h = ap (λ ws. y ∷ ws) (take_suc xs i x h)
 
-flat_append : {X Y : Type 0} (g : X → List Y) (xs ys : List X) → flat_map g (xs ++ ys) ≡ flat_map g xs ++ flat_map g ys
+pub flat_append : {X Y : Type 0} (g : X → List Y) (xs ys : List X) → flat_map g (xs ++ ys) ≡ flat_map g xs ++ flat_map g ys
 flat_append g [] ys = refl
 flat_append g (x ∷ xs) ys = ap (λ ws. g x ++ ws) (flat_append g xs ys) ∙ assoc (g x) (flat_map g xs) (flat_map g ys)
   where
@@ -32,7 +32,7 @@ flat_append g (x ∷ xs) ys = ap (λ ws. g x ++ ws) (flat_append g xs ys) ∙ as
     assoc [] b c = refl
     assoc (x ∷ a) b c = ap (λ ws. x ∷ ws) (assoc a b c)
 
-append_none : {Y : Type 0} (ys : List Y) → ys ++ [] ≡ ys
+pub append_none : {Y : Type 0} (ys : List Y) → ys ++ [] ≡ ys
 append_none [] = refl
 append_none (y ∷ ys) = ap (λ ws. y ∷ ws) (append_none ys)
 

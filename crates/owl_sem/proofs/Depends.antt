@@ -1,5 +1,5 @@
 -- Membership and satisfaction depend on the names alone.
-use Rattle.std.proofs.Common.{◌≡◌, ℕ, ◌<◌, ◌==◌, Bool, true, false, not, ◌&&◌, List, [], ◌∷◌, ◌++◌, flat_map, map, nat_le, ◌≤◌, refl, sym, ap, subst, ◌∙◌}
+use Rattle.std.proofs.Common.{◌≡◌, ℕ, ◌<◌, ◌==◌, Bool, true, false, not, ◌&&◌, List, [], ◌∷◌, flat_map, map, nat_le, ◌≤◌, refl, sym, ap, subst, ◌∙◌}
 use Rattle.std.specs.List.{list_all, list_any}
 use Rattle.owl_axioms.specs.declared.body.Body.{Body}
 use Rattle.owl_axioms.specs.declared.body.Body.TheVariants as body
@@ -8,10 +8,9 @@ use Rattle.owl_axioms.specs.declared.expr.ClassExpr.TheOpen.{ClassExpr-F}
 use Rattle.owl_axioms.specs.declared.expr.ClassExpr.TheFolds.{fold-roll-ClassExpr, ind-ClassExpr, map-ClassExpr}
 use Rattle.owl_axioms.specs.declared.expr.ClassExpr.TheViews.{roll-ClassExpr}
 use Rattle.owl_axioms.specs.declared.name.Kind.TheVariants as kind
-use Rattle.owl_axioms.specs.declared.name.Name.{Name}
 use Rattle.owl_sem.specs.Interp.{Interp, in_class, in_role, individual, member, member_step, number_of}
 use Rattle.owl_sem.specs.Laws.{MembersDependOnNames, ModelsDependOnNames, SatisfactionDependsOnNames}
-use Rattle.owl_sem.specs.Models.{Agrees, IsModel, Satisfies}
+use Rattle.owl_sem.specs.Models.{Agrees, Satisfies}
 use Rattle.owl_axioms.specs.Names.{Scope, body_names, covers, names_in, names_step, one_role, two_roles}
 use Rattle.owl_axioms.proofs.Listed.{covers_append, covers_axiom, covers_cons, names_layer}
 

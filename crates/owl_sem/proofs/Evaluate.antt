@@ -1,12 +1,12 @@
 -- Axioms of named classes and of roles, tested element by element: what is computed of a small interpretation is so.
-use Rattle.std.proofs.Common.{◌≡◌, ℕ, ◌<◌, ◌≤◌, ◌==◌, zero, suc, Bool, true, false, not, ◌&&◌, ◌||◌, List, nat_le, nat_lt, refl, sym, ap, subst, ◌∙◌, true≢false, arith, eqb-true, ⊎_elim}
+use Rattle.std.proofs.Common.{◌≡◌, ℕ, ◌<◌, ◌≤◌, ◌==◌, zero, suc, Bool, true, false, not, ◌&&◌, ◌||◌, List, refl, sym, ap, ◌∙◌, true≢false, arith, ⊎_elim}
 use Rattle.std.proofs.lemmas.Bool.{cases_lt}
 use Rattle.std.proofs.lemmas.Bool.Decides.{nat_tests}
 use Rattle.owl_axioms.specs.declared.body.Body.TheVariants as body
 use Rattle.owl_axioms.specs.declared.expr.ClassExpr.{ClassExpr}
 use Rattle.owl_axioms.specs.declared.expr.ClassExpr.TheVariants as expr
 use Rattle.owl_axioms.proofs.Tests.{both}
-use Rattle.owl_sem.specs.Interp.{Interp, in_class, in_role, individual, member}
+use Rattle.owl_sem.specs.Interp.{Interp, in_class, in_role, member}
 use Rattle.owl_sem.specs.Models.{Satisfies, SatisfiesChain}
 use Rattle.owl_sem.proofs.Means.{axioms_are, in_role_first, in_role_second, of_class}
 

@@ -1,9 +1,9 @@
 -- Keeping: it composes over the common names, and holds between axioms that have the same models.
-use Rattle.std.proofs.Common.{◌≡◌, ℕ, Bool, true, false, cond, ◌&&◌, List, [], ◌∷◌, ◌++◌, Contains, filter, if◌then◌else◌, refl, sym, ap, subst, ◌∙◌, true≢false}
+use Rattle.std.proofs.Common.{◌≡◌, true, List, ◌++◌, Contains, refl, ◌∙◌}
 use Rattle.owl_axioms.specs.declared.name.Kind.TheVariants as kind
 use Rattle.owl_sem.specs.Interp.{Interp}
 use Rattle.owl_sem.specs.Laws.{AddingEntailedKeeps, KeepBoth, KeepingAllComposes, KeepingComposes, KeepingIsReflexive, KeepingLess, LogicalKeeps, SameAxiomsKeep, TakingEntailedKeeps, Within}
-use Rattle.owl_sem.specs.Models.{Agrees, EntailsAll, IsModel, Keeps, KeepsAll, Satisfies, is_logical, logical_of}
+use Rattle.owl_sem.specs.Models.{Agrees, EntailsAll, IsModel, Satisfies, is_logical, logical_of}
 use Rattle.owl_axioms.specs.Names.{Scope, all_names, common}
 use Rattle.owl_axioms.proofs.Listed.{append_in, in_left}
 use Rattle.owl_sem.proofs.Lists.{filter_in, in_filter}

@@ -1,10 +1,9 @@
 -- The tables of the small interpretation, computed.
-use Rattle.std.proofs.Common.{◌≡◌, ℕ, ◌<◌, ◌==◌, Bool, true, false, not, ◌&&◌, List, [], ◌∷◌, nat_le, refl, sym, ◌∙◌, true≢false, arith}
+use Rattle.std.proofs.Common.{◌≡◌, ℕ, ◌==◌, Bool, true, false, not, List, [], ◌∷◌, nat_le, refl, sym, ◌∙◌, true≢false, arith}
 use Rattle.std.specs.List.{list_all, list_any}
-use Rattle.owl_axioms.specs.declared.body.Body.TheVariants as body
 use Rattle.owl_axioms.specs.declared.expr.ClassExpr.{ClassExpr}
 use Rattle.owl_axioms.specs.declared.expr.ClassExpr.TheVariants as expr
-use Rattle.owl_sem.specs.Examples.{AxiomTable, ExpressionTable, IndividualTable, before, beside, bicycle, front, has, mine, of, owns, part, saddle, same, spare, wheel, whole}
+use Rattle.owl_sem.specs.Examples.{AxiomTable, ExpressionTable, IndividualTable, before, beside, bicycle, front, has, of, owns, part, saddle, same, wheel, whole}
 use Rattle.owl_sem.specs.Interp.{in_class, in_role, individual, member, reached}
 use Rattle.owl_sem.specs.Models.{Satisfies}
 use Rattle.owl_sem.proofs.Evaluate as test

@@ -1,6 +1,6 @@
 -- What the definitions of this crate amount to: what depends on the names alone, that class expressions, axioms and
 -- keeping are those of the standard, and how keeping goes on from step to step. (OWL 2 Direct Semantics; keeping: own.)
-use Rattle.std.specs.Prelude.{ℕ, ◌≡◌, ◌<◌, ◌↔◌, true, false, not, ◌&&◌, List, ◌++◌, Contains}
+use Rattle.std.specs.Prelude.{ℕ, ◌≡◌, ◌<◌, ◌↔◌, true, false, ◌&&◌, List, ◌++◌, Contains}
 use Rattle.owl_axioms.specs.Names.{Scope, body_names, common, covers, names_in, names_of}
 use Rattle.owl_axioms.specs.declared.body.Axiom.{Axiom}
 use Rattle.owl_axioms.specs.declared.body.Body.{Body}

@@ -1,13 +1,14 @@
 //! Items beside the texts by which they are sorted.
-ghost use Rattle.std.specs.Prelude.{◌≡◌, nat_eq, refl};
+ghost use Rattle.std.specs.Prelude.{◌≡◌, ℕ, IfOk, List, nat_eq, refl};
 ghost use Rattle.std.specs.Cmp.{on_equiv, on_per, on_po, on_total, partial_equiv_from_equiv};
 ghost use Rattle.std.specs.Cmp.Lexicographic.{pointwise, texts_po, texts_ties};
 ghost use Rattle.std.specs.Ordering.{as_partial_cmp};
 ghost use Rattle.std.proofs.lemmas.Cmp.{nat_list_cmp_total, nat_list_eq_equiv};
-ghost use Rattle.text_sets.specs.Keyed.{key_of};
+ghost use Rattle.text_sets.specs.Keyed.{AreKeyed, items_of};
 ghost use Rattle.text_sets.specs.Sets.{AreTold};
 ghost use Rattle.text_sets.specs.Sorted.{by_text, sorted_by};
 
+use std::alloc::{AllocError, Global};
 use std::cmp::Ordering;
 
 /// An item and its text. It is compared by the text alone.
@@ -60,10 +61,22 @@ impl<T: Drop> Ord for Keyed<T> {
 /// The items in the order of their texts, each once, where equal texts stand beside equal items. It takes no memory, and
 /// time in proportion to a sort.
 pub fn sorted_once<T: Drop>(keyed: Vec<Keyed<T>>) -> Vec<Keyed<T>>
-    ensures { AreTold key_of keyed.items → result.items ≡ sorted_by key_of keyed.items }
+    ensures { (text : T → List ℕ) → AreKeyed text keyed.items → AreTold text (items_of keyed.items)
+        → items_of result.items ≡ sorted_by text (items_of keyed.items) }
 {
     let mut keyed = keyed;
     keyed.sort_unstable();
     keyed.dedup();
     keyed
+}
+
+/// The items without their texts.
+pub fn items_of<T: Drop>(alloc: Global, keyed: Vec<Keyed<T>>) -> Result<Vec<T>, AllocError>
+    ensures { IfOk result (λ items. items.items ≡ items_of keyed.items) }
+{
+    let mut items = Vec::with_capacity(alloc, keyed.len())?;
+    for one in keyed {
+        items.push(one.item)?;
+    }
+    Ok(items)
 }

@@ -4,4 +4,4 @@
 
 mod keyed;
 
-pub use keyed::{Keyed, sorted_once};
+pub use keyed::{Keyed, items_of, sorted_once};

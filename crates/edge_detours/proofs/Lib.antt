@@ -1,0 +1,6 @@
+pub mod EdgeRows
+pub mod DetourLemmas
+pub mod RankLemmas
+pub mod RootLemmas
+pub mod WalkLemmas
+pub mod KeepLemmas

@@ -1,0 +1,4 @@
+pub mod Laws
+pub mod Reach
+pub mod Redundant
+pub mod inner

@@ -1,0 +1,56 @@
+//! `NumberSet`: a set of numbers in first-seen order.
+ghost use Rattle.std.specs.Prelude.{◌≡◌, [], IfOk, OnErr, nat_eq};
+ghost use Rattle.std.specs.List.{list_any};
+ghost use Rattle.fact_rows.specs.Rows.{Inserts};
+
+use indexmap::IndexSet;
+use std::alloc::{AllocError, Global};
+use std::marker::Model;
+
+/// A set of numbers, seen as the list of them in the order in which they came.
+#[derive(Drop)]
+pub struct NumberSet {
+    set: IndexSet<u32>,
+}
+
+impl Model for NumberSet {
+    ghost use Rattle.std.specs.Prelude.{List, ℕ};
+
+    ghost Value = { List ℕ };
+
+    ghost view = { λ s. s.set.keys };
+}
+
+impl NumberSet {
+    /// A set without numbers.
+    pub fn new(alloc: Global) -> NumberSet
+        ensures { result ≡ [] }
+    {
+        NumberSet {
+            set: IndexSet::new(alloc),
+        }
+    }
+
+    /// Adds a number, and says whether it is new. Where no memory is left, nothing has happened.
+    pub fn insert(&mut self, value: u32) -> Result<bool, AllocError>
+        ensures inserts { IfOk result (λ is_new. Inserts self.old value is_new self.new) }
+        ensures unchanged { OnErr result (self.new ≡ self.old) }
+    {
+        let (_, is_new) = self.set.insert_full(value)?;
+        Ok(is_new)
+    }
+
+    /// Whether the number is there.
+    pub fn has(&self, value: u32) -> bool
+        ensures { result ≡ list_any (nat_eq value) self.now }
+    {
+        self.set.contains(&value)
+    }
+
+    /// The numbers in their order.
+    pub fn as_slice(&self) -> &[u32]
+        ensures { result.now ≡ self.now }
+    {
+        self.set.as_slice()
+    }
+}

@@ -1,0 +1,5 @@
+pub mod Laws
+pub mod Least
+pub mod Module
+pub mod Shipped
+pub mod inner

@@ -1,0 +1,11 @@
+pub mod AxiomLaws
+pub mod BackLaw
+pub mod DocumentLaw
+pub mod OfSet
+pub mod PlainClauses
+pub mod SaidSingly
+pub mod SetLaws
+pub mod SinglesLaw
+pub mod SpacedLaws
+pub mod SpelledLaw
+pub mod SpelledShapes

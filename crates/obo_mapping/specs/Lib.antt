@@ -1,0 +1,4 @@
+pub mod Axioms
+pub mod Back
+pub mod Documents
+pub mod Sound

@@ -1,0 +1,11 @@
+pub mod FormedAxioms
+pub mod FormedNotes
+pub mod FormedStatements
+pub mod GroupSource
+pub mod NormFacts
+pub mod NormLaw
+pub mod NormSound
+pub mod OwlCases
+pub mod ProperOwl
+pub mod SettleLaws
+pub mod ShortGroups

@@ -1,0 +1,5 @@
+use Rattle.obo_normal_form.proofs.NormFacts as law
+use Rattle.obo_normal_form.proofs.laws.owl_is_spaced.Goals as goal
+
+pub returns : goal.returns
+returns c = law.owl_is_spaced

@@ -1,0 +1,17 @@
+pub mod ContextLemmas
+pub mod FormBacks
+pub mod Guards
+pub mod KeyCovers
+pub mod KeyLemmas
+pub mod LoopLemmas
+pub mod NoteCovers
+pub mod NoteFits
+pub mod NoteHasClause
+pub mod NoteLaws
+pub mod PartBacks
+pub mod PartCovers
+pub mod PrintedOrder
+pub mod ProperSides
+pub mod SideTexts
+pub mod SortLemmas
+pub mod XrefLists

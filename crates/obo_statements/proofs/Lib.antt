@@ -1,0 +1,7 @@
+pub mod GroupLaws
+pub mod GroupsBack
+pub mod PlainMeaning
+pub mod Rising
+pub mod SpelledFits
+pub mod StatementLaws
+pub mod StatementsBack

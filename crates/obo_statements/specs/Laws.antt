@@ -1,0 +1,32 @@
+-- What the meaning and the spelling of statements and groups amount to. (Own.)
+use Rattle.std.specs.Prelude.{◌≡◌, ℕ, true, false, List, Some}
+use Rattle.obo_tags.specs.declared.kind.FrameKind.{FrameKind}
+use Rattle.obo_tags.specs.declared.kind.FrameKind.TheVariants.{Term}
+use Rattle.obo_clause.specs.Fits.{Fits}
+use Rattle.obo_clause.specs.declared.clause.Clause.{Clause}
+use Rattle.owl_axioms.specs.Proper.{is_proper_body}
+use Rattle.owl_axioms.specs.Text.{side_text}
+use Rattle.owl_axioms.specs.declared.body.Axiom.{Axiom}
+use Rattle.text_sets.specs.Sets.{In, SameMembers}
+use Rattle.text_sets.specs.Sorted.{Rises}
+use Rattle.obo_notes.specs.Context.{reading_in, writing_in}
+use Rattle.obo_statements.specs.Statements.{statement_meaning, statement_spelling}
+use Rattle.obo_statements.specs.Groups.{Group, group_meaning, group_spelling}
+
+-- the clause of a statement states it, in an ontology of this name, or with this one in its place
+abbrev pub StatementReadsBackIn : List ℕ → Type 0
+StatementReadsBackIn space = (kind : FrameKind) (x : List ℕ) (one : Axiom) (clause : Clause) → is_proper_body one.body ≡ true → Rises side_text one.sides
+    → statement_spelling (writing_in space) kind x one ≡ Some clause → statement_meaning (reading_in space) kind x clause ≡ Some one
+
+-- it is one that some line spells in a frame of the kind
+abbrev pub StatementFitsIn : List ℕ → Type 0
+StatementFitsIn space = (kind : FrameKind) (x : List ℕ) (one : Axiom) (clause : Clause) → statement_spelling (writing_in space) kind x one ≡ Some clause → Fits kind false clause
+
+-- the clauses of a group say its axiom, in any order
+abbrev pub GroupReadsBackIn : List ℕ → Type 0
+GroupReadsBackIn space = (x : List ℕ) (group : Group) (one : Axiom) (clauses others : List Clause) → is_proper_body one.body ≡ true → Rises side_text one.sides
+    → group_spelling (writing_in space) x group one ≡ Some clauses → SameMembers others clauses → group_meaning (reading_in space) x group others ≡ Some one
+
+-- each of them is one that some line spells in a Term
+abbrev pub GroupFitsIn : List ℕ → Type 0
+GroupFitsIn space = (x : List ℕ) (group : Group) (one : Axiom) (clauses : List Clause) (clause : Clause) → group_spelling (writing_in space) x group one ≡ Some clauses → In clause clauses → Fits Term false clause

@@ -1,0 +1,3 @@
+pub mod EndTold
+pub mod OneMore
+pub mod Rounds
