@@ -15,7 +15,8 @@ use Rattle.rel_io.specs.Texts.{is_clean_iri}
 use Rattle.obo_clause.specs.Fits.{FitsQualifier}
 use Rattle.clause_printer.specs.Printing.{qualifier_text}
 use Rattle.owl_axioms.specs.Proper.{in_order, is_class_iri, is_proper_body, is_proper_expr, is_proper_pair, is_proper_role_pair, proper_step}
-use Rattle.owl_axioms.specs.Text.{expr_text, iri_text, owl_nothing, owl_thing, side_text}
+use Rattle.owl_axioms.specs.Vocabulary.{owl_nothing, owl_thing}
+use Rattle.owl_axioms.specs.Text.{expr_text, iri_text, side_text}
 use Rattle.owl_axioms.specs.declared.annotation.Side.{Side}
 use Rattle.owl_axioms.specs.declared.body.Body.{Body}
 use Rattle.owl_axioms.specs.declared.body.Body.TheVariants as body

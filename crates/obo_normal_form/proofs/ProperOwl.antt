@@ -20,7 +20,8 @@ use Rattle.obo_clause.specs.declared.clause.Scope.TheVariants as scope
 use Rattle.obo_clause.specs.declared.clause.Value.{Value}
 use Rattle.obo_clause.specs.declared.clause.Value.TheVariants as value
 use Rattle.owl_axioms.specs.Proper.{are_proper_sides, is_proper, is_proper_body, is_proper_name, is_proper_side, is_proper_value, rises}
-use Rattle.owl_axioms.specs.Text.{rdfs_label, side_text}
+use Rattle.owl_axioms.specs.Vocabulary.{rdfs_label}
+use Rattle.owl_axioms.specs.Text.{side_text}
 use Rattle.owl_axioms.specs.declared.annotation.NoteValue.TheVariants as noted
 use Rattle.owl_axioms.specs.declared.annotation.Side.{Side}
 use Rattle.owl_axioms.specs.declared.body.Axiom.{Axiom}

@@ -14,7 +14,7 @@ use Rattle.obo_clause.specs.declared.clause.Scope.{Scope}
 use Rattle.obo_clause.specs.declared.clause.Scope.TheVariants as scope
 use Rattle.obo_clause.specs.declared.clause.Value.{Value}
 use Rattle.obo_clause.specs.declared.clause.Value.TheVariants as value
-use Rattle.owl_axioms.specs.Text.{rdfs_label}
+use Rattle.owl_axioms.specs.Vocabulary.{rdfs_label}
 use Rattle.owl_axioms.specs.declared.annotation.NoteValue.{NoteValue}
 use Rattle.owl_axioms.specs.declared.annotation.NoteValue.TheVariants.{Link, Text, Typed}
 use Rattle.owl_axioms.specs.declared.annotation.Side.{Side}

@@ -25,7 +25,8 @@ use Rattle.obo_clause.specs.declared.clause.Value.TheVariants as value
 use Rattle.obo_clause.specs.declared.clause.Xref.{Xref}
 use Rattle.obo_clause.specs.Fits.{FitsQualifier, FitsShape, FitsXref, IsTextOrNone, IsWordOrNone}
 use Rattle.clause_printer.specs.Printing.{qualifier_text}
-use Rattle.owl_axioms.specs.Text.{rdfs_label, side_text}
+use Rattle.owl_axioms.specs.Vocabulary.{rdfs_label}
+use Rattle.owl_axioms.specs.Text.{side_text}
 use Rattle.owl_axioms.specs.declared.annotation.NoteValue.{NoteValue}
 use Rattle.owl_axioms.specs.declared.annotation.NoteValue.TheVariants.{Link, Text, Typed}
 use Rattle.owl_axioms.specs.declared.annotation.Side.{Side}

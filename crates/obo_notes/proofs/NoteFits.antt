@@ -33,7 +33,7 @@ use Rattle.iri_map.specs.Id.{is_url}
 use Rattle.iri_map.specs.Laws.{IsCleanUrl}
 use Rattle.iri_map.specs.Split.{after_start}
 use Rattle.iri_map.proofs.UrlLemmas.{IsCleanUrl-escaped_url, is_readable-clean}
-use Rattle.owl_axioms.specs.Text.{rdfs_label}
+use Rattle.owl_axioms.specs.Vocabulary.{rdfs_label}
 use Rattle.owl_axioms.specs.declared.annotation.NoteValue.{NoteValue}
 use Rattle.owl_axioms.specs.declared.annotation.NoteValue.TheVariants.{Link, Text, Typed}
 use Rattle.owl_axioms.specs.declared.annotation.Side.{Side}

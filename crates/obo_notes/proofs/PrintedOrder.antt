@@ -8,7 +8,7 @@ use Rattle.obo_clause.specs.declared.clause.Qualifier.{Qualifier}
 use Rattle.obo_clause.specs.declared.clause.Value.{Value}
 use Rattle.obo_clause.specs.declared.clause.Value.TheVariants as value
 use Rattle.clause_printer.specs.Printing.{qualifier_text, xref_text}
-use Rattle.owl_axioms.specs.Text.{rdfs_label}
+use Rattle.owl_axioms.specs.Vocabulary.{rdfs_label}
 use Rattle.owl_axioms.specs.declared.annotation.NoteValue.{NoteValue}
 use Rattle.owl_axioms.specs.declared.annotation.NoteValue.TheVariants.{Link, Text, Typed}
 use Rattle.owl_axioms.specs.declared.annotation.Side.{Side}

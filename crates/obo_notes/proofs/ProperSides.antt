@@ -17,7 +17,8 @@ use Rattle.obo_clause.specs.declared.clause.Value.{Value}
 use Rattle.obo_clause.specs.declared.clause.Value.TheVariants as value
 use Rattle.obo_clause.specs.declared.clause.Xref.{Xref}
 use Rattle.owl_axioms.specs.Proper.{is_proper_side, is_proper_value}
-use Rattle.owl_axioms.specs.Text.{rdfs_label, side_text}
+use Rattle.owl_axioms.specs.Vocabulary.{rdfs_label}
+use Rattle.owl_axioms.specs.Text.{side_text}
 use Rattle.owl_axioms.specs.declared.annotation.Side.{Side}
 use Rattle.obo_notes.specs.Context.{Agree, Reading, Writing}
 use Rattle.obo_notes.specs.Forms.{Form, said}

@@ -5,7 +5,8 @@ use Rattle.std.proofs.lemmas.Bool.{and_parts, both_ways, cases_Bool, cond-false,
 use Rattle.std.proofs.lemmas.List.{append_cancel_left, append_cancel_right}
 use Rattle.rel_io.specs.Texts.{is_clean_iri, is_iri_byte}
 use Rattle.owl_axioms.specs.Proper.{is_proper_side, is_proper_value}
-use Rattle.owl_axioms.specs.Text.{iri_text, label_texts, phrase, quoted, rdfs_label, side_text, value_text}
+use Rattle.owl_axioms.specs.Vocabulary.{rdfs_label}
+use Rattle.owl_axioms.specs.Text.{iri_text, label_texts, phrase, quoted, side_text, value_text}
 use Rattle.owl_axioms.specs.declared.annotation.NoteValue.{NoteValue}
 use Rattle.owl_axioms.specs.declared.annotation.NoteValue.TheVariants as note
 use Rattle.owl_axioms.specs.declared.annotation.Side.{Side}

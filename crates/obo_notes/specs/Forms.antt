@@ -10,7 +10,7 @@ use Rattle.obo_clause.specs.declared.clause.Value.TheVariants as value
 use Rattle.owl_axioms.specs.declared.annotation.NoteValue.{NoteValue}
 use Rattle.owl_axioms.specs.declared.annotation.NoteValue.TheVariants.{Link, Text, Typed}
 use Rattle.owl_axioms.specs.declared.annotation.Side.{Side}
-use Rattle.owl_axioms.specs.Text.{rdfs_label}
+use Rattle.owl_axioms.specs.Vocabulary.{rdfs_label}
 use Rattle.text_sets.specs.Parts.{Taken, first_some, take_all, take_one}
 use Rattle.text_sets.specs.Sorted.{sorted_by}
 use Rattle.clause_printer.specs.Printing.{xref_text}

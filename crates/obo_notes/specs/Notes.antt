@@ -7,7 +7,8 @@ use Rattle.obo_tags.specs.declared.kind.FrameKind.{FrameKind}
 use Rattle.clause_printer.specs.Printing.{qualifier_text}
 use Rattle.obo_clause.specs.declared.clause.Clause.{Clause}
 use Rattle.obo_clause.specs.declared.clause.Qualifier.{Qualifier}
-use Rattle.owl_axioms.specs.Text.{rdfs_label, side_text}
+use Rattle.owl_axioms.specs.Vocabulary.{rdfs_label}
+use Rattle.owl_axioms.specs.Text.{side_text}
 use Rattle.owl_axioms.specs.declared.annotation.Side.{Side}
 use Rattle.text_sets.specs.Parts.{each_some, first_some}
 use Rattle.text_sets.specs.Sorted.{sorted_by}

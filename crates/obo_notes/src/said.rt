@@ -1,7 +1,8 @@
 //! `note_of`: what a clause says in words. Each form of a value is read by a function of its own.
 ghost use Rattle.std.specs.Prelude.{◌≡◌, ◌∷◌, ◌++◌, [], IfOk, OnOk, Some, map};
 ghost use Rattle.std.specs.Option.{option_to_list};
-ghost use Rattle.owl_axioms.specs.Text.{side_text, rdfs_label};
+ghost use Rattle.owl_axioms.specs.Text.{side_text};
+ghost use Rattle.owl_axioms.specs.Vocabulary.{rdfs_label};
 ghost use Rattle.owl_axioms.specs.declared.annotation.NoteValue.TheVariants.{Link, Text};
 ghost use Rattle.text_sets.specs.Sets.{AreTold};
 ghost use Rattle.obo_notes.specs.Context.{Reading, datatype_iri, reading_in};

@@ -45,7 +45,7 @@ fn push_some_label(out: &mut Vec<u8>, label: &[u8]) -> Result<(), NoMemory>
 }
 
 /// Appends what stands before a label.
-#[tactic(auto, unfolding(owl_axioms::specs::Text::iri_text, owl_axioms::specs::Text::rdfs_label))]
+#[tactic(auto, unfolding(owl_axioms::specs::Text::iri_text, owl_axioms::specs::Vocabulary::rdfs_label))]
 fn push_label_begin(out: &mut Vec<u8>) -> Result<(), NoMemory>
     ensures { OnOk result (out.new.items ≡ out.old.items ++ label_begin) }
 {

@@ -36,7 +36,7 @@ pub fn xsd_boolean() -> &'static [u8]
 }
 
 /// The property of names and of labels.
-#[tactic(auto, unfolding(owl_axioms::specs::Text::rdfs_label))]
+#[tactic(auto, unfolding(owl_axioms::specs::Vocabulary::rdfs_label))]
 pub fn rdfs_label() -> &'static [u8]
     ensures { result.now ≡ text.rdfs_label }
 {

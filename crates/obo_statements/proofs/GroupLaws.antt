@@ -26,7 +26,8 @@ use Rattle.clause_printer.specs.Printing.{behind_space, clause_text, value_text}
 use Rattle.clause_printer.proofs.PrintedLines.{printed_line}
 use Rattle.std.specs.Str.{bytes_eq}
 use Rattle.owl_axioms.specs.Proper.{in_order, rises}
-use Rattle.owl_axioms.specs.Text.{expr_text, iri_text, owl_nothing, owl_thing, phrase, side_text, text_step}
+use Rattle.owl_axioms.specs.Vocabulary.{owl_nothing, owl_thing}
+use Rattle.owl_axioms.specs.Text.{expr_text, iri_text, phrase, side_text, text_step}
 use Rattle.owl_axioms.specs.declared.annotation.Side.{Side}
 use Rattle.owl_axioms.specs.declared.body.Axiom.{Axiom}
 use Rattle.owl_axioms.specs.declared.body.Body.{Body}

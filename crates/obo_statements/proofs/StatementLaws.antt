@@ -14,7 +14,8 @@ use Rattle.obo_clause.specs.declared.clause.Value.{Value}
 use Rattle.obo_clause.specs.declared.clause.Value.TheVariants as value
 use Rattle.rel_io.specs.Texts.{is_clean_iri, is_readable}
 use Rattle.owl_axioms.specs.Proper.{in_order, is_class_iri, is_proper_body, is_proper_pair, is_proper_role_pair}
-use Rattle.owl_axioms.specs.Text.{expr_text, iri_text, owl_nothing, owl_thing, text_step}
+use Rattle.owl_axioms.specs.Vocabulary.{owl_nothing, owl_thing}
+use Rattle.owl_axioms.specs.Text.{expr_text, iri_text, text_step}
 use Rattle.owl_axioms.specs.declared.body.Body.{Body}
 use Rattle.owl_axioms.specs.declared.body.Body.TheVariants as body
 use Rattle.owl_axioms.specs.declared.expr.ClassExpr.{ClassExpr}

@@ -6,7 +6,7 @@ use Rattle.std.specs.Str.{bytes_eq}
 use Rattle.obo_clause.specs.declared.clause.Value.{Value}
 use Rattle.obo_clause.specs.declared.clause.Value.TheVariants as value
 use Rattle.owl_axioms.specs.Proper.{is_class_iri}
-use Rattle.owl_axioms.specs.Text.{owl_nothing, owl_thing}
+use Rattle.owl_axioms.specs.Vocabulary.{owl_nothing, owl_thing}
 use Rattle.owl_axioms.specs.declared.expr.ClassExpr.{ClassExpr}
 use Rattle.owl_axioms.specs.declared.expr.ClassExpr.TheVariants as expr
 use Rattle.obo_notes.specs.Context.{Reading, Writing, where_true}

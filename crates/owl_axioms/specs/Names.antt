@@ -3,7 +3,7 @@
 use Rattle.std.specs.Prelude.{ℕ, Bool, true, false, not, ◌&&◌, ◌||◌, List, [], ◌∷◌, ◌++◌, flat_map}
 use Rattle.std.specs.List.{list_all, list_any}
 use Rattle.std.specs.Str.{bytes_eq}
-use Rattle.owl_axioms.specs.Text.{owl_nothing, owl_thing}
+use Rattle.owl_axioms.specs.Vocabulary.{owl_nothing, owl_thing}
 use Rattle.owl_axioms.specs.contracts.name.KindPartialEq.TheImpl as kind_eq
 use Rattle.owl_axioms.specs.declared.body.Axiom.{Axiom}
 use Rattle.owl_axioms.specs.declared.body.Body.{Body}

@@ -171,7 +171,7 @@ fn add_subject(sig: &mut Sig, name: &Name) -> Result<(), NoMemory>
 }
 
 /// Whether a name may be in a signature: a class other than owl:Thing and owl:Nothing, a role or an individual.
-#[tactic(auto, unfolding(crate::specs::Names::is_signed, crate::specs::Text::owl_thing, crate::specs::Text::owl_nothing))]
+#[tactic(auto, unfolding(crate::specs::Names::is_signed, crate::specs::Vocabulary::owl_thing, crate::specs::Vocabulary::owl_nothing))]
 pub fn is_signed(name: &Name) -> bool
     ensures { result ≡ is_signed name.now.kind name.now.iri }
 {

@@ -1,6 +1,7 @@
 -- Parts of the functional-style text of an annotation. (OWL 2 Structural Specification and Functional-Style Syntax.)
 use Rattle.std.specs.Prelude.{ℕ, ◌==◌, ◌||◌, if◌then◌else◌, List, [], ◌∷◌, ◌++◌, Option, None, Some, codes}
-use Rattle.owl_axioms.specs.Text.{iri_text, quoted, rdfs_label, value_text}
+use Rattle.owl_axioms.specs.Vocabulary.{rdfs_label}
+use Rattle.owl_axioms.specs.Text.{iri_text, quoted, value_text}
 use Rattle.owl_axioms.specs.declared.annotation.Side.{Side}
 
 -- a byte of a quoted text, behind a backslash where it is a quote or a backslash

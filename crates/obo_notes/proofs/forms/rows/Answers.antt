@@ -1,7 +1,7 @@
 -- What the rows say computes.
 use Rattle.std.proofs.Common.{refl}
 use Rattle.obo_tags.specs.Table.{tags_of}
-use Rattle.owl_axioms.specs.Text.{rdfs_label}
+use Rattle.owl_axioms.specs.Vocabulary.{rdfs_label}
 use Rattle.obo_notes.specs.Notes.{clause_by, form_of, rows, spelling, tags_tried}
 use Rattle.obo_notes.specs.Vocabulary.{iao_definition, iao_replaced_by, obo_in_owl, owl_deprecated, rdfs_comment}
 use Rattle.obo_notes.proofs.forms.rows.Goals as goal

@@ -1,0 +1,2 @@
+//! One module for each crate whose answers are compared.
+mod notes;
