@@ -107,6 +107,13 @@ verdict_table =
       max_one = (max e o q A Unknown botA 1, max e o r B Empty botB 1, max f g q B Full topB 1, max e d q A Unknown idA 1);
       exact_none = (exact e o q A Unknown botA 0, exact f g q B Full topB 0);
       exact_one = (exact e o r B Empty botB 1, exact f g q B Full topB 1, exact e d q B Empty idB 1, exact e d q expr.Thing Full idThing 1);
+      min_one_more = min e d q expr.Thing Full idThing 1;
+      min_more = (min e o q A Unknown botA 2, min e o q A Unknown botA 3, min e o r B Empty botB 3, min e d q A Unknown idA 3, min f g q B Full topB 3);
+      max_none_more = (max e o r B Empty botB 0, max e d q expr.Thing Full idThing 0);
+      max_more = (max e o q A Unknown botA 2, max e o r B Empty botB 2, max e d q A Unknown idA 2, max f g q B Full topB 2);
+      exact_none_more = (exact e o r B Empty botB 0, exact e d q expr.Thing Full idThing 0);
+      exact_one_more = exact e o q A Unknown botA 1;
+      exact_more = (exact e o r B Empty botB 2, exact e o q A Unknown botA 3, exact e o r B Empty botB 3, exact e d q A Unknown idA 3, exact f g q B Full topB 3);
       exact_two = (exact e o q A Unknown botA 2, exact f g q B Full topB 2, exact e d q A Unknown idA 2);
     }
 
@@ -148,4 +155,6 @@ local_table = record {
   );
   class_assertion = (λ k. is_full (topB k), λ k. is_full (botB k), λ k. is_full (topA k));
   role_assertion = (refl, refl, refl);
+  first_parts = (λ k. is_empty (botB k) || is_empty (botA k), refl, refl);
+  identities = (refl, refl, refl, refl);
 }

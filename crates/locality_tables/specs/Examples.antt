@@ -74,6 +74,14 @@ pub record VerdictTable : Type 0 where
   pub max_one : Bot (expr.Max 1 q A) Full × Bot (expr.Max 1 r B) Full × Top (expr.Max 1 q B) Unknown × Id (expr.Max 1 q A) Full
   pub exact_none : Bot (expr.Exact 0 q A) Full × Top (expr.Exact 0 q B) Empty
   pub exact_one : Bot (expr.Exact 1 r B) Empty × Top (expr.Exact 1 q B) Unknown × Id (expr.Exact 1 q B) Empty × Id (expr.Exact 1 q expr.Thing) Full
+  -- the rows that are left, number by number
+  pub min_one_more : Id (expr.Min 1 q expr.Thing) Full
+  pub min_more : Bot (expr.Min 2 q A) Empty × Bot (expr.Min 3 q A) Empty × Bot (expr.Min 3 r B) Empty × Id (expr.Min 3 q A) Empty × Top (expr.Min 3 q B) Unknown
+  pub max_none_more : Bot (expr.Max 0 r B) Full × Id (expr.Max 0 q expr.Thing) Empty
+  pub max_more : Bot (expr.Max 2 q A) Full × Bot (expr.Max 2 r B) Full × Id (expr.Max 2 q A) Full × Top (expr.Max 2 q B) Unknown
+  pub exact_none_more : Bot (expr.Exact 0 r B) Full × Id (expr.Exact 0 q expr.Thing) Empty
+  pub exact_one_more : Bot (expr.Exact 1 q A) Empty
+  pub exact_more : Bot (expr.Exact 2 r B) Empty × Bot (expr.Exact 3 q A) Empty × Bot (expr.Exact 3 r B) Empty × Id (expr.Exact 3 q A) Empty × Top (expr.Exact 3 q B) Unknown
   pub exact_two : Bot (expr.Exact 2 q A) Empty × Top (expr.Exact 2 q B) Unknown × Id (expr.Exact 2 q A) Empty
 
 -- whether the axiom is local for bottom, for top and for the identity
@@ -108,3 +116,6 @@ pub record LocalTable : Type 0 where
   pub range : BotLocal (body.Range q A) true × BotLocal (body.Range r A) false × TopLocal (body.Range r B) true × TopLocal (body.Range q A) false
   pub class_assertion : TopLocal (body.ClassAssertion B individual) true × BotLocal (body.ClassAssertion B individual) false × TopLocal (body.ClassAssertion A individual) false
   pub role_assertion : TopLocal (body.RoleAssertion q individual individual) true × BotLocal (body.RoleAssertion q individual individual) false × TopLocal (body.RoleAssertion r individual individual) false
+  -- the first part of each row alone, and roles that are the identity
+  pub first_parts : BotLocal (body.Disjoint B A) true × BotLocal (body.Chain q r r) true × BotLocal (body.DisjointRoles q r) true
+  pub identities : IdLocal (body.EquivRoles q q) true × IdLocal (body.Inverse q q) true × IdLocal (body.Transitive q) true × IdLocal (body.Symmetric q) true

@@ -1,5 +1,5 @@
--- Which axioms are local: satisfied, whatever the names inside a signature mean, where those outside are filled. One kind
--- of axiom a row; an axiom that is not logical is always satisfied. (After Cuenca Grau, Horrocks, Kazakov and Sattler, JAIR
+-- Which axioms are local: those of which this test shows that they are satisfied, whatever the names inside a signature mean,
+-- where those outside are filled. One kind of axiom a row; an axiom that is not logical is always satisfied. (After Cuenca Grau, Horrocks, Kazakov and Sattler, JAIR
 -- 31 (2008), section 5; the rows for axioms about roles alone are our own.)
 use Rattle.std.specs.Prelude.{ℕ, Bool, true, ◌&&◌, ◌||◌, List}
 use Rattle.owl_axioms.specs.declared.body.Body.{Body}

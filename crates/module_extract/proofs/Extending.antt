@@ -1,9 +1,12 @@
 -- A module keeps the axioms that it was taken from.
-use Rattle.std.proofs.Common.{◌≡◌, Contains, ◌≤◌, Bool, true, false, not, ◌&&◌, ◌||◌, refl, ap, subst}
+use Rattle.std.proofs.Common.{◌≡◌, ℕ, List, Contains, ◌≤◌, Bool, true, false, not, ◌&&◌, ◌||◌, refl, ap, subst}
 use Rattle.owl_ontology.specs.Ontology.{flagged}
 use Rattle.owl_sem.specs.Interp.{Interp}
 use Rattle.owl_sem.specs.Models.{Agrees}
 use Rattle.owl_axioms.specs.Names.{Scope, body_names, listed, names_of}
+use Rattle.owl_axioms.specs.declared.name.Kind.{Kind}
+use Rattle.owl_axioms.specs.declared.name.Kind.TheVariants as kind
+use Rattle.owl_axioms.specs.declared.name.Name.{Name}
 use Rattle.owl_sem.proofs.Depends.{satisfaction_depends}
 use Rattle.owl_sem.proofs.Keeps.{agrees_less}
 use Rattle.owl_axioms.proofs.Listed.{covers_axiom, covers_from, covers_listed, listed_in, name_of_axiom}

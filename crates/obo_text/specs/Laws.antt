@@ -11,7 +11,7 @@ use Rattle.obo_text.specs.Text.{canonical_text, lines_in}
 
 -- no line is longer than this
 abbrev pub LinesFit : ℕ → List Framed → Type 0
-LinesFit limit ds = All (λ line. length line ≤ limit) (lines_in ds)
+LinesFit limit document = All (λ line. length line ≤ limit) (lines_in document)
 
 -- the text is a file with the same clauses in the same frames
 pub record IsReadBack (limit : ℕ) (placed : List Placed) : Type 0 where

@@ -29,7 +29,7 @@ id_at kind one = if same_kind one.frame kind then Some one.id else None
 
 -- the ids of the frames of a kind, by bytes
 abbrev pub ids_of : FrameKind → List Framed → List (List ℕ)
-ids_of kind ds = sorted_by (λ (id : List ℕ). id) (filter_map (id_at kind) ds)
+ids_of kind document = sorted_by (λ (id : List ℕ). id) (filter_map (id_at kind) document)
 
 -- a clause of this frame that is not the one that gives the id
 abbrev pub later_clause : FrameKind → List ℕ → Framed → Option Clause
@@ -48,4 +48,4 @@ order_of kind clause =
 
 -- the clauses of a frame behind its id, in their order
 abbrev pub later_clauses : List Framed → FrameKind → List ℕ → List Clause
-later_clauses ds kind id = sorted_on texts_cmp (order_of kind) (filter_map (later_clause kind id) ds)
+later_clauses document kind id = sorted_on texts_cmp (order_of kind) (filter_map (later_clause kind id) document)

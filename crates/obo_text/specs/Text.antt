@@ -59,12 +59,12 @@ only_one (x ∷ y ∷ ys) = None
 
 -- the name of a frame, where it has exactly one
 abbrev pub name_at : List Framed → FrameKind → List ℕ → Option (List ℕ)
-name_at ds kind id = only_one (filter_map name_in (later_clauses ds kind id))
+name_at document kind id = only_one (filter_map name_in (later_clauses document kind id))
 
 -- the name that stands behind a clause
 abbrev pub name_behind : List Framed → FrameKind → Clause → Option (List ℕ)
-name_behind ds kind clause =
-    option_and_then (λ target. option_and_then (λ id. name_at ds target id) (last_id clause.value)) (target_kind kind clause.tag)
+name_behind document kind clause =
+    option_and_then (λ target. option_and_then (λ id. name_at document target id) (last_id clause.value)) (target_kind kind clause.tag)
 
 abbrev pub comment_of : Option (List ℕ) → List ℕ
 comment_of None = []
@@ -73,7 +73,7 @@ comment_of (Some name) = comment_text name
 -- ---- lines
 
 abbrev pub line_of : List Framed → FrameKind → Clause → List ℕ
-line_of ds kind clause = clause_text clause ++ comment_of (name_behind ds kind clause)
+line_of document kind clause = clause_text clause ++ comment_of (name_behind document kind clause)
 
 -- the line that begins a frame
 abbrev pub frame_line : FrameKind → List ℕ
@@ -92,20 +92,20 @@ head kind id = record { kind = kind; id = id }
 
 -- the Terms, the Typedefs and the Instances, each kind by id
 abbrev pub heads_of : List Framed → List Head
-heads_of ds =
-    map (head kinds.Term) (ids_of kinds.Term ds) ++ (map (head kinds.Typedef) (ids_of kinds.Typedef ds) ++ map (head kinds.Instance) (ids_of kinds.Instance ds))
+heads_of document =
+    map (head kinds.Term) (ids_of kinds.Term document) ++ (map (head kinds.Typedef) (ids_of kinds.Typedef document) ++ map (head kinds.Instance) (ids_of kinds.Instance document))
 
 -- the clauses of a frame behind its id
 abbrev pub clause_lines : List Framed → FrameKind → List ℕ → List (List ℕ)
-clause_lines ds kind id = map (line_of ds kind) (later_clauses ds kind id)
+clause_lines document kind id = map (line_of document kind) (later_clauses document kind id)
 
 -- an empty line, the frame line, the `id` clause and the others
 abbrev pub frame_lines : List Framed → Head → List (List ℕ)
-frame_lines ds one = [] ∷ frame_line one.kind ∷ line_of ds one.kind (id_clause one.id) ∷ clause_lines ds one.kind one.id
+frame_lines document one = [] ∷ frame_line one.kind ∷ line_of document one.kind (id_clause one.id) ∷ clause_lines document one.kind one.id
 
 -- the header and the frames
 abbrev pub lines_in : List Framed → List (List ℕ)
-lines_in ds = clause_lines ds kinds.Header [] ++ flat_map (frame_lines ds) (heads_of ds)
+lines_in document = clause_lines document kinds.Header [] ++ flat_map (frame_lines document) (heads_of document)
 
 unfoldable pub canonical_text : List Framed → List ℕ
-canonical_text ds = written (lines_in ds) []
+canonical_text document = written (lines_in document) []

@@ -20,6 +20,7 @@ use std::alloc::Global;
 pub fn canonical_text(alloc: Global, document: &Document) -> Result<Vec<u8>, NoMemory>
     ensures { IfOk result (λ text. text.items ≡ canonical_text (map unlined document.now)) }
 {
+    // The length tells what every document keeps.
     let _count = document.len();
     let placed = document.as_slice();
     let header = sorted_rows(rows_in(alloc, FrameKind::Header, placed)?);

@@ -1,8 +1,17 @@
 pub mod Adding
 pub mod Growth
+pub mod JoinedTexts
+pub mod Layers
 pub mod Listed
+pub mod Making
+pub mod Members
+pub mod NamedClasses
 pub mod ProperAxioms
 pub mod Same
 pub mod Signatures
 pub mod Signed
+pub mod SortedTexts
+pub mod TellingSides
+pub mod TellingTexts
 pub mod Tests
+pub mod TextFronts

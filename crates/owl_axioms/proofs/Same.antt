@@ -33,30 +33,30 @@ abbrev pub Tells : {A : Type 0} → (A → A → Bool) → Type 0
 Tells {A} eq = (x y : A) → eq x y ≡ true → x ≡ y
 
 -- both parts of a test
-both : (s t : Bool) → (s && t) ≡ true → (s ≡ true) × (t ≡ true)
+pub both : (s t : Bool) → (s && t) ≡ true → (s ≡ true) × (t ≡ true)
 both true t h = (refl, h)
 both false t h = absurd (true≢false (sym h))
 
 -- ---- the fields of a variant
 
-abbrev one : {A : Type 0} → (A → A → Bool) → A × Unit {0} → A × Unit {0} → Bool
+abbrev pub one : {A : Type 0} → (A → A → Bool) → A × Unit {0} → A × Unit {0} → Bool
 one F x y = F x.0 y.0
 
-abbrev two : {A B : Type 0} → (A → A → Bool) → (B → B → Bool) → A × (B × Unit {0}) → A × (B × Unit {0}) → Bool
+abbrev pub two : {A B : Type 0} → (A → A → Bool) → (B → B → Bool) → A × (B × Unit {0}) → A × (B × Unit {0}) → Bool
 two F G x y = F x.0 y.0 && G x.1.0 y.1.0
 
-abbrev three : {A B C : Type 0} → (A → A → Bool) → (B → B → Bool) → (C → C → Bool) → A × (B × (C × Unit {0})) → A × (B × (C × Unit {0})) → Bool
+abbrev pub three : {A B C : Type 0} → (A → A → Bool) → (B → B → Bool) → (C → C → Bool) → A × (B × (C × Unit {0})) → A × (B × (C × Unit {0})) → Bool
 three F G H x y = F x.0 y.0 && (G x.1.0 y.1.0 && H x.1.1.0 y.1.1.0)
 
-same_one : {A : Type 0} (F : A → A → Bool) → Tells F → Tells (one F)
+pub same_one : {A : Type 0} (F : A → A → Bool) → Tells F → Tells (one F)
 same_one F f x y h = λ i. (f x.0 y.0 h i, tt)
 
-same_two : {A B : Type 0} (F : A → A → Bool) (G : B → B → Bool) → Tells F → Tells G → Tells (two F G)
+pub same_two : {A B : Type 0} (F : A → A → Bool) (G : B → B → Bool) → Tells F → Tells G → Tells (two F G)
 same_two F G f g x y h =
     let parts : (F x.0 y.0 ≡ true) × (G x.1.0 y.1.0 ≡ true) = both _ _ h in
     λ i. (f x.0 y.0 parts.0 i, (g x.1.0 y.1.0 parts.1 i, tt))
 
-same_three : {A B C : Type 0} (F : A → A → Bool) (G : B → B → Bool) (H : C → C → Bool) → Tells F → Tells G → Tells H → Tells (three F G H)
+pub same_three : {A B C : Type 0} (F : A → A → Bool) (G : B → B → Bool) (H : C → C → Bool) → Tells F → Tells G → Tells H → Tells (three F G H)
 same_three F G H f g k x y h =
     let parts : (F x.0 y.0 ≡ true) × ((G x.1.0 y.1.0 && H x.1.1.0 y.1.1.0) ≡ true) = both _ _ h in
     let more : (G x.1.0 y.1.0 ≡ true) × (H x.1.1.0 y.1.1.0 ≡ true) = both _ _ parts.1 in
@@ -65,12 +65,12 @@ same_three F G H f g k x y h =
 -- ---- the variants of an enum
 
 -- at this value the test of its variant tells, whatever it is compared with
-abbrev TellsAt : (Fss : List (List Field)) → Each Bool Fss → Choice Fss → Type 0
+abbrev pub TellsAt : (Fss : List (List Field)) → Each Bool Fss → Choice Fss → Type 0
 TellsAt [] each c = Unit {0}
 TellsAt (Fs ∷ Fss) each (inl x) = (y : Values Fs) → each.0 x y ≡ true → x ≡ y
 TellsAt (Fs ∷ Fss) each (inr c) = TellsAt Fss each.1 c
 
-same_choice : (Fss : List (List Field)) (each : Each Bool Fss) (c d : Choice Fss) → TellsAt Fss each c → by false false Fss each c d ≡ true → c ≡ d
+pub same_choice : (Fss : List (List Field)) (each : Each Bool Fss) (c d : Choice Fss) → TellsAt Fss each c → by false false Fss each c d ≡ true → c ≡ d
 same_choice [] each c d tells h = absurd c
 same_choice (Fs ∷ Fss) each (inl x) (inl y) tells h = ap inl (tells y h)
 same_choice (Fs ∷ Fss) each (inl x) (inr d) tells h = absurd (true≢false (sym h))
@@ -78,18 +78,18 @@ same_choice (Fs ∷ Fss) each (inr c) (inl y) tells h = absurd (true≢false (sy
 same_choice (Fs ∷ Fss) each (inr c) (inr d) tells h = ap inr (same_choice Fss each.1 c d tells h)
 
 -- the test of each variant tells
-abbrev EachTells : (Fss : List (List Field)) → Each Bool Fss → Type 0
+abbrev pub EachTells : (Fss : List (List Field)) → Each Bool Fss → Type 0
 EachTells [] each = Unit {0}
 EachTells (Fs ∷ Fss) each = ((x y : Values Fs) → each.0 x y ≡ true → x ≡ y) × EachTells Fss each.1
 
-tells_at : (Fss : List (List Field)) (each : Each Bool Fss) → EachTells Fss each → (c : Choice Fss) → TellsAt Fss each c
+pub tells_at : (Fss : List (List Field)) (each : Each Bool Fss) → EachTells Fss each → (c : Choice Fss) → TellsAt Fss each c
 tells_at [] each tells c = tt
 tells_at (Fs ∷ Fss) each tells (inl x) = tells.0 x
 tells_at (Fs ∷ Fss) each tells (inr c) = tells_at Fss each.1 tells.1 c
 
 -- ---- lists, options and texts
 
-same_list : {A : Type 0} (eq : A → A → Bool) → Tells eq → Tells (pointwise eq)
+pub same_list : {A : Type 0} (eq : A → A → Bool) → Tells eq → Tells (pointwise eq)
 same_list eq tells [] [] h = refl
 same_list eq tells [] (y ∷ ys) h = absurd (true≢false (sym h))
 same_list eq tells (x ∷ xs) [] h = absurd (true≢false (sym h))
@@ -97,18 +97,18 @@ same_list eq tells (x ∷ xs) (y ∷ ys) h =
     let parts : (eq x y ≡ true) × (pointwise eq xs ys ≡ true) = both _ _ h in
     λ i. tells x y parts.0 i ∷ same_list eq tells xs ys parts.1 i
 
-abbrev text : List ℕ → List ℕ → Bool
+abbrev pub text : List ℕ → List ℕ → Bool
 text = pointwise nat_eq
 
-same_bytes : Tells text
+pub same_bytes : Tells text
 same_bytes x y h = same_text x y (sym h)
 
-same_number : Tells nat_eq
+pub same_number : Tells nat_eq
 same_number m n h = eqb-true m n h
 
 -- ---- expressions
 
-abbrev same_expr : ClassExpr → ClassExpr → Bool
+abbrev pub same_expr : ClassExpr → ClassExpr → Bool
 same_expr = expr_eq.ghosts.eq
 
 abbrev expr_each : Each Bool expr.the_parts

@@ -1,8 +1,11 @@
+pub mod Classes
 pub mod Laws
+pub mod Made
 pub mod Names
 pub mod Proper
 pub mod Same
-pub mod SignatureLaws
 pub mod Signature
+pub mod SignatureLaws
 pub mod Text
+pub mod Vocabulary
 pub mod inner

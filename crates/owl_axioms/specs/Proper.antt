@@ -1,11 +1,12 @@
 -- Proper trees and axioms: one way to write what has no order and no repeats, and IRIs that can be printed. Each part is
 -- a test. (Own; the order is that of the functional-style text, OWL 2 Structural Specification and Functional-Style Syntax.)
-use Rattle.std.specs.Prelude.{ℕ, ◌==◌, Bool, true, not, ◌&&◌, ◌||◌, List, [], ◌∷◌, IsTrue, length, map, nat_le, nat_lt, nat_eq}
+use Rattle.std.specs.Prelude.{ℕ, ◌^◌, Bool, true, not, ◌&&◌, ◌||◌, List, [], ◌∷◌, IsTrue, length, map, nat_le, nat_lt, nat_eq}
 use Rattle.std.specs.Cmp.Lexicographic.{pointwise, slice_cmp}
 use Rattle.std.specs.List.{list_all}
 use Rattle.std.specs.Ordering.{is_gt, is_lt, nat_cmp}
 use Rattle.rel_io.specs.Texts.{is_clean_iri}
-use Rattle.owl_axioms.specs.Text.{expr_text, iri_text, owl_nothing, owl_thing, side_text}
+use Rattle.owl_axioms.specs.Text.{expr_text, iri_text, side_text}
+use Rattle.owl_axioms.specs.Vocabulary.{owl_nothing, owl_thing}
 use Rattle.owl_axioms.specs.declared.annotation.NoteValue.{NoteValue}
 use Rattle.owl_axioms.specs.declared.annotation.NoteValue.TheVariants as note
 use Rattle.owl_axioms.specs.declared.annotation.Side.{Side}
@@ -20,6 +21,10 @@ use Rattle.owl_axioms.specs.declared.name.Name.{Name}
 -- the IRI of a class that is neither owl:Thing nor owl:Nothing, which are trees of their own
 unfoldable pub is_class_iri : List ℕ → Bool
 is_class_iri iri = is_clean_iri iri && not (pointwise nat_eq iri owl_thing || pointwise nat_eq iri owl_nothing)
+
+-- a number of fillers: it fits in 32 bits
+unfoldable pub is_count : ℕ → Bool
+is_count n = nat_lt n (2 ^ 32)
 
 -- two texts of which the first is not above the second, byte by byte
 unfoldable pub in_order : List ℕ → List ℕ → Bool
@@ -48,9 +53,9 @@ proper_step (ClassExpr-F.Or operands) = are_proper_operands operands
 proper_step (ClassExpr-F.Not part) = part.1
 proper_step (ClassExpr-F.Some role part) = is_clean_iri role && part.1
 proper_step (ClassExpr-F.All role part) = is_clean_iri role && part.1
-proper_step (ClassExpr-F.Min n role part) = is_clean_iri role && part.1
-proper_step (ClassExpr-F.Max n role part) = is_clean_iri role && part.1
-proper_step (ClassExpr-F.Exact n role part) = is_clean_iri role && part.1
+proper_step (ClassExpr-F.Min n role part) = is_count n && is_clean_iri role && part.1
+proper_step (ClassExpr-F.Max n role part) = is_count n && is_clean_iri role && part.1
+proper_step (ClassExpr-F.Exact n role part) = is_count n && is_clean_iri role && part.1
 
 -- a class expression that is proper at each place in it
 unfoldable pub is_proper_expr : ClassExpr → Bool

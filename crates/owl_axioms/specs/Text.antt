@@ -3,6 +3,7 @@
 use Rattle.std.specs.Prelude.{ℕ, ◌==◌, ◌||◌, if◌then◌else◌, List, [], ◌∷◌, ◌++◌, Option, None, Some, codes, flat_map, map}
 use Rattle.std.specs.Fmt.{decimal}
 use Rattle.std.specs.List.{join_with_byte}
+use Rattle.owl_axioms.specs.Vocabulary.{owl_nothing, owl_thing, rdfs_label}
 use Rattle.owl_axioms.specs.declared.annotation.NoteValue.{NoteValue}
 use Rattle.owl_axioms.specs.declared.annotation.NoteValue.TheVariants as note
 use Rattle.owl_axioms.specs.declared.annotation.Side.{Side}
@@ -16,16 +17,6 @@ use Rattle.owl_axioms.specs.declared.name.Kind.{Kind}
 use Rattle.owl_axioms.specs.declared.name.Kind.TheVariants as kind
 use Rattle.owl_axioms.specs.declared.name.Name.{Name}
 
--- owl:Thing, owl:Nothing and rdfs:label
-unfoldable pub owl_thing : List ℕ
-owl_thing = codes "http://www.w3.org/2002/07/owl#Thing"
-
-unfoldable pub owl_nothing : List ℕ
-owl_nothing = codes "http://www.w3.org/2002/07/owl#Nothing"
-
-unfoldable pub rdfs_label : List ℕ
-rdfs_label = codes "http://www.w3.org/2000/01/rdf-schema#label"
-
 -- a word and what it takes: in brackets, with a space between each two
 unfoldable pub phrase : List ℕ → List (List ℕ) → List ℕ
 phrase word parts = word ++ codes "(" ++ join_with_byte 32 parts ++ codes ")"
@@ -34,9 +25,13 @@ phrase word parts = word ++ codes "(" ++ join_with_byte 32 parts ++ codes ")"
 unfoldable pub iri_text : List ℕ → List ℕ
 iri_text iri = codes "<" ++ iri ++ codes ">"
 
--- a text, in quotes, with a backslash before each quote and backslash
+-- a byte in quotes: behind a backslash where it is a quote or a backslash
+abbrev pub escaped : ℕ → List ℕ
+escaped byte = if byte == 34 || byte == 92 then 92 ∷ byte ∷ [] else byte ∷ []
+
+-- a text, in quotes
 unfoldable pub quoted : List ℕ → List ℕ
-quoted text = codes "\"" ++ flat_map (λ b. if b == 34 || b == 92 then 92 ∷ b ∷ [] else b ∷ []) text ++ codes "\""
+quoted text = codes "\"" ++ flat_map escaped text ++ codes "\""
 
 -- the value of an annotation
 unfoldable pub value_text : NoteValue → List ℕ

@@ -115,7 +115,7 @@ impl Dup for Axiom {
 }
 
 /// What is made of copies of two values.
-fn of_two<A: Dup + Drop, B: Dup, F: FnOnce(A, B) -> Body + Drop>(
+pub fn of_two<A: Dup + Drop, B: Dup, F: FnOnce(A, B) -> Body + Drop>(
     alloc: Global,
     first: &A,
     second: &B,

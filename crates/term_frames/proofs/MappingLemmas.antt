@@ -12,7 +12,7 @@ use Rattle.iri_map.proofs.LawLemmas.{CanonicalIdIsSettled-all, FollowsForms-all}
 use Rattle.iri_map.proofs.UrlLemmas.{IsCleanUrl-iri_of, is_clean_iri-url}
 use Rattle.rel_io.specs.Texts.{is_clean_iri}
 use Rattle.owl_axioms.specs.Proper.{IsProper, is_class_iri, is_proper, is_proper_body, is_proper_expr, proper_step}
-use Rattle.owl_axioms.specs.Text.{owl_nothing, owl_thing, rdfs_label}
+use Rattle.owl_axioms.specs.Vocabulary.{owl_nothing, owl_thing, rdfs_label}
 use Rattle.owl_axioms.specs.declared.expr.ClassExpr.TheFolds.{para-roll-ClassExpr}
 use Rattle.owl_axioms.specs.declared.expr.ClassExpr.TheOpen.{ClassExpr-F}
 use Rattle.owl_axioms.specs.declared.expr.ClassExpr.TheVariants as expr

@@ -12,7 +12,7 @@ use Rattle.iri_map.proofs.CandidateLemmas.{bytes_eq-refl}
 use Rattle.owl_ontology.specs.Ontology.{Entry, IsHeld, add_entry}
 use Rattle.owl_axioms.specs.declared.body.Axiom.{Axiom}
 use Rattle.owl_axioms.specs.declared.body.Body.TheVariants.{Declaration, Note, Sub}
-use Rattle.owl_axioms.specs.Text.{rdfs_label}
+use Rattle.owl_axioms.specs.Vocabulary.{rdfs_label}
 use Rattle.owl_axioms.specs.declared.annotation.NoteValue.TheVariants.{Text}
 use Rattle.owl_axioms.specs.declared.expr.ClassExpr.TheVariants as expr
 use Rattle.owl_ontology.specs.declared.origin.Origin.{Origin}

@@ -12,7 +12,7 @@ use Rattle.iri_map.specs.Candidate.{id_of}
 use Rattle.iri_map.specs.Id.{iri_of, is_canonical_id}
 use Rattle.iri_map.specs.Ontology.{name_or_temp}
 use Rattle.owl_ontology.specs.Ontology.{IsHeld, OntologyState, axioms_of}
-use Rattle.owl_axioms.specs.Text.{rdfs_label}
+use Rattle.owl_axioms.specs.Vocabulary.{rdfs_label}
 use Rattle.owl_axioms.specs.declared.body.Axiom.{Axiom}
 use Rattle.term_frames.specs.Built.{first_unbuilt, is_built, unbuilt_line}
 use Rattle.term_frames.specs.Clauses.{Placed, clause, clauses_of_file, first_named, header_of, ontology_name}

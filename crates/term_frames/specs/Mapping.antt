@@ -7,7 +7,7 @@ use Rattle.iri_map.specs.Candidate.{id_of}
 use Rattle.iri_map.specs.Id.{iri_of}
 use Rattle.iri_map.specs.Ontology.{name_or_temp}
 use Rattle.owl_ontology.specs.Ontology.{Entry, OntologyState, add_entry}
-use Rattle.owl_axioms.specs.Text.{rdfs_label}
+use Rattle.owl_axioms.specs.Vocabulary.{rdfs_label}
 use Rattle.owl_axioms.specs.declared.annotation.NoteValue.TheVariants.{Text}
 use Rattle.owl_axioms.specs.declared.body.Axiom.{Axiom}
 use Rattle.owl_axioms.specs.declared.body.Body.{Body}

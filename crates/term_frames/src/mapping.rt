@@ -6,7 +6,7 @@ ghost use Rattle.iri_map.specs.Id.{is_canonical_id};
 ghost use Rattle.iri_map.specs.Id as id_iri;
 ghost use Rattle.rel_io.specs.Texts.{is_clean_iri};
 ghost use Rattle.owl_axioms.specs.Proper.{IsProper};
-ghost use Rattle.owl_axioms.specs.Text.{rdfs_label};
+ghost use Rattle.owl_axioms.specs.Vocabulary.{rdfs_label};
 ghost use Rattle.term_frames.specs.Clauses.{clause};
 ghost use Rattle.term_frames.specs.Mapping as spec;
 ghost use Rattle.term_frames.specs.declared.clause.Tag.TheVariants as tag;
@@ -58,7 +58,7 @@ pub fn subclass(alloc: Global, space: &Bytes, id: &[u8], parent: &[u8]) -> Resul
 }
 
 /// The annotation property of names.
-#[tactic(auto, unfolding(owl_axioms::specs::Text::rdfs_label))]
+#[tactic(auto, unfolding(owl_axioms::specs::Vocabulary::rdfs_label))]
 fn label_property(alloc: Global) -> Result<Iri, NoMemory>
     ensures { IfOk result (λ property. property ≡ rdfs_label) }
 {
@@ -129,7 +129,7 @@ fn id_clause(alloc: Global, space: &Bytes, name: &Name) -> Result<Option<Clause>
 }
 
 /// The clause of a text about an entity.
-#[tactic(auto, unfolding(owl_axioms::specs::Text::rdfs_label))]
+#[tactic(auto, unfolding(owl_axioms::specs::Vocabulary::rdfs_label))]
 fn name_clause(
     alloc: Global,
     space: &Bytes,

@@ -51,7 +51,7 @@ abbrev pub row_at : FrameKind → Framed → Option Row
 row_at kind one = if same_kind one.frame kind then Some (row_of kind one.id one.clause) else None
 
 abbrev pub rows_in : FrameKind → List Framed → List Row
-rows_in kind ds = filter_map (row_at kind) ds
+rows_in kind document = filter_map (row_at kind) document
 
 -- ---- names
 
