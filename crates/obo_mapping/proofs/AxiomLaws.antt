@@ -15,7 +15,8 @@ use Rattle.owl_axioms.specs.declared.name.Kind.TheVariants as kinds
 use Rattle.owl_axioms.specs.declared.name.Name.{Name}
 use Rattle.text_sets.specs.Sorted.{Rises}
 use Rattle.text_sets.proofs.PartLemmas.{option_and_then_some, option_map_some}
-use Rattle.obo_mapping.specs.Axioms.{Situation, axiom_said, entity_of, frame_id, frame_kind, framed, is_declared, is_logical, is_metadata, name_as, note_axiom, ontology_axiom, said_at}
+use Rattle.obo_frames.specs.Framed.{framed}
+use Rattle.obo_mapping.specs.Axioms.{Situation, axiom_said, entity_of, frame_id, frame_kind, is_declared, is_logical, is_metadata, name_as, note_axiom, ontology_axiom, said_at}
 use Rattle.obo_notes.specs.Context.{Agree, Reading, Writing, where_true}
 use Rattle.obo_notes.specs.Forms.{said}
 use Rattle.obo_notes.specs.declared.note.Note.{Note}

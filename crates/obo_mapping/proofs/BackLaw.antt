@@ -11,7 +11,7 @@ use Rattle.owl_axioms.specs.Proper.{are_proper_sides, is_proper, is_proper_body,
 use Rattle.owl_axioms.specs.Text.{side_text}
 use Rattle.owl_axioms.specs.declared.body.Axiom.{Axiom}
 use Rattle.text_sets.specs.Sorted.{Rises, sorted_by, sorted_on}
-use Rattle.obo_mapping.specs.Axioms.{Framed}
+use Rattle.obo_frames.specs.Framed.{Framed}
 use Rattle.obo_mapping.specs.Back.{AxiomsReadBack, IsSpellable, IsTold, SaysAgain, back, writing_of}
 use Rattle.obo_notes.specs.Context.{reading_in, writing_in}
 use Rattle.obo_mapping.specs.Documents.{clauses_for, declared_in, has_tag, header_with, is_raw, is_untranslatable, kept_with, name_of, owl, spaced, spelled}

@@ -19,7 +19,8 @@ use Rattle.text_sets.proofs.SetLemmas.{In-append, In-append_left, In-append_righ
 use Rattle.text_sets.specs.Sets.{In, SameMembers}
 use Rattle.text_sets.specs.Sorted.{sorted_by}
 use Rattle.text_sets.proofs.PartLemmas.{option_map_some}
-use Rattle.obo_mapping.specs.Axioms.{Framed, Situation, axiom_said, axiom_spelled, body_spelled, declaring, entity_of, frame_id, frame_kind, framed, id_clause, is_declared, is_metadata, metadata_clause, name_as, ontology_axiom}
+use Rattle.obo_frames.specs.Framed.{Framed, framed, id_clause}
+use Rattle.obo_mapping.specs.Axioms.{Situation, axiom_said, axiom_spelled, body_spelled, declaring, entity_of, frame_id, frame_kind, is_declared, is_metadata, metadata_clause, name_as, ontology_axiom}
 use Rattle.obo_notes.specs.Context.{Agree, Writing, reading_in, where_true, writing_in}
 use Rattle.obo_mapping.specs.Documents.{clauses_for, declared_in, group_of, group_said, has_tag, header_with, is_header, is_truth_value, is_typedef, is_untranslatable, kept_with, names_in, owl, situation_of, spaced, space_of, spelled, text_in, word_in}
 use Rattle.obo_notes.specs.Forms.{first_part}

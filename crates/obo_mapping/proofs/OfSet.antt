@@ -12,7 +12,8 @@ use Rattle.text_sets.specs.Parts.{first_some}
 use Rattle.text_sets.proofs.SetLemmas.{In-filter_map, In-flat_map, In-from_filter_map, In-from_flat_map}
 use Rattle.text_sets.specs.Sets.{In, SameMembers}
 use Rattle.text_sets.specs.Sorted.{sorted_by}
-use Rattle.obo_mapping.specs.Axioms.{Framed, Home, at_home, axiom_spelled, body_spelled, frame_id, frame_kind, framed, home_at, home_of, same_kind, statement_spelled}
+use Rattle.obo_frames.specs.Framed.{Framed, framed}
+use Rattle.obo_mapping.specs.Axioms.{Home, at_home, axiom_spelled, body_spelled, frame_id, frame_kind, home_at, home_of, same_kind, statement_spelled}
 use Rattle.obo_notes.specs.Context.{Writing, where_true}
 use Rattle.obo_mapping.specs.Documents.{clauses_for, declared_in, group_spelled, spelled}
 use Rattle.obo_notes.specs.Forms.{first_part, note_of}

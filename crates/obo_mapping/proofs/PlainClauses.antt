@@ -15,7 +15,8 @@ use Rattle.owl_axioms.specs.declared.body.Axiom.{Axiom}
 use Rattle.text_sets.specs.Parts.{first_some}
 use Rattle.text_sets.specs.Sets.{In}
 use Rattle.text_sets.proofs.PartLemmas.{first_some-found, option_and_then_some, option_cases, option_map_some}
-use Rattle.obo_mapping.specs.Axioms.{Framed, Situation, is_metadata}
+use Rattle.obo_frames.specs.Framed.{Framed}
+use Rattle.obo_mapping.specs.Axioms.{Situation, is_metadata}
 use Rattle.obo_notes.specs.Context.{Reading, Writing, where_true}
 use Rattle.obo_mapping.specs.Documents.{group_of, group_with, has_reserved_key, has_tag, is_broken, is_header, is_misfit, is_of_metadata, is_other_name, is_raw, is_truth_value, is_typedef, is_untranslatable, situation_of}
 use Rattle.obo_notes.specs.Forms.{Form, said, spelled_as}

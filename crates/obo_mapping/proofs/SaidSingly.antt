@@ -2,7 +2,8 @@
 use Rattle.std.proofs.Common.{◌≡◌, List, [], ◌∷◌, ◌++◌, Option, None, Some, codes, filter, not, refl, ap, ◌∙◌}
 use Rattle.std.specs.List.{cons_option, filter_map, flat_map}
 use Rattle.std.specs.Option.{option_to_list}
-use Rattle.obo_mapping.specs.Axioms.{Framed, Situation, axiom_said, axioms_said, entity_of}
+use Rattle.obo_frames.specs.Framed.{Framed}
+use Rattle.obo_mapping.specs.Axioms.{Situation, axiom_said, axioms_said, entity_of}
 use Rattle.obo_mapping.specs.Documents.{group_said, is_untranslatable, kept_with, owl, situation_of, spaced, text_in}
 
 one_more : {Y : Type 0} (o : Option Y) (ys : List Y) → option_to_list o ++ ys ≡ cons_option o ys

@@ -20,7 +20,8 @@ use Rattle.owl_axioms.specs.declared.name.Name.{Name}
 use Rattle.text_sets.specs.Sorted.{Rises, sorted_by}
 use Rattle.text_sets.proofs.PartLemmas.{option_and_then_some, option_map_some}
 use Rattle.text_sets.proofs.SortedLemmas.{sorted_by-only}
-use Rattle.obo_mapping.specs.Axioms.{Framed, Home, Situation, at_home, axiom_said, axiom_spelled, body_spelled, declaring, frame_id, frame_kind, framed, home_at, home_of, id_clause, is_declared, is_logical, metadata_clause, name_as, note_axiom, ontology_axiom, said_at, statement_spelled}
+use Rattle.obo_frames.specs.Framed.{Framed, framed, id_clause}
+use Rattle.obo_mapping.specs.Axioms.{Home, Situation, at_home, axiom_said, axiom_spelled, body_spelled, declaring, frame_id, frame_kind, home_at, home_of, is_declared, is_logical, metadata_clause, name_as, note_axiom, ontology_axiom, said_at, statement_spelled}
 use Rattle.obo_notes.specs.Context.{Agree, Reading, Writing}
 use Rattle.obo_notes.specs.Forms.{first_part, note_of, said}
 use Rattle.obo_notes.specs.declared.note.Note.{Note}
@@ -131,14 +132,14 @@ module _ (situation : Situation) (writing : Writing) (agree : Agree situation.re
   Says cs a = EachSays (axiom_said situation) cs a
 
   statement_says : (a : Axiom) (cs : List Framed) → IsStatement a.body → is_proper_body a.body ≡ true → Rises side_text a.sides → statement_spelled writing declared a ≡ Some cs → Says cs a
-  statement_says a cs stated_plainly proper rises is =
+  statement_says a cs logical proper rises is =
       let home = option_and_then_some (λ (home : Home). option_map (at_home home) (statement_spelling writing (frame_kind home.entity.kind) home.entity.iri a)) (home_of writing declared a.body) cs is in
       let clause = option_map_some (at_home home.0) (statement_spelling writing (frame_kind home.0.entity.kind) home.0.entity.iri a) cs home.2 in
       let at = home_is writing declared a.body home.0 home.1 in
       let entity = home.0.entity in
       subst (λ x. Says x a) clause.2
       (one_says (axiom_said situation) (framed (frame_kind entity.kind) home.0.id clause.0) a
-      (statement_said situation writing agree declared knows entity.kind entity.iri home.0.id a clause.0 proper rises (anchors_logical a.body stated_plainly entity at.among) at.declared at.id clause.1))
+      (statement_said situation writing agree declared knows entity.kind entity.iri home.0.id a clause.0 proper rises (anchors_logical a.body logical entity at.among) at.declared at.id clause.1))
 
   note_says : (subject : Name) (note : Note) (cs : List Framed) → Rises side_text note.sides
       → option_and_then (λ (home : Home). option_map (at_home home) (spelling writing (frame_kind subject.kind) note)) (home_at writing declared subject) ≡ Some cs → Says cs (note_axiom subject note)

@@ -20,12 +20,13 @@ use Rattle.owl_axioms.specs.declared.name.Kind.TheVariants as kinds
 use Rattle.owl_axioms.specs.declared.name.Name.{Name}
 use Rattle.text_sets.specs.Parts.{first_some}
 use Rattle.text_sets.specs.Sorted.{Rises}
-use Rattle.obo_mapping.specs.Axioms.{Framed, Situation, axiom_said, axiom_spelled, entity_of, frame_id, frame_kind, framed, id_clause, is_declared, is_metadata, metadata_clause, name_as, note_axiom, said_at, same_kind}
+use Rattle.obo_frames.specs.Framed.{Framed, framed, id_clause}
+use Rattle.obo_mapping.specs.Axioms.{Situation, axiom_said, axiom_spelled, entity_of, frame_id, frame_kind, is_declared, is_metadata, metadata_clause, name_as, note_axiom, said_at, same_kind}
 use Rattle.obo_notes.specs.Context.{Agree, Writing, where_true}
 use Rattle.obo_mapping.specs.Documents.{clauses_for, declared_in, group_in, group_of, group_said, group_with, has_reserved_key, has_tag, is_broken, is_header, is_misfit, is_raw, is_term, is_typedef, is_untranslatable, situation_of, spelled}
 use Rattle.obo_notes.specs.Notes.{form_of, meaning}
 use Rattle.obo_statements.specs.Statements.{statement_in, statement_meaning, statements_of}
-use Rattle.obo_statements.specs.Groups.{Group, group_in_body, group_meaning, group_operands, group_spelling, group_tag, intersection, union}
+use Rattle.obo_statements.specs.Groups.{Group, group_meaning, group_spelling, group_tag, intersection, union}
 use Rattle.obo_mapping.proofs.AxiomLaws.{Knows}
 use Rattle.obo_statements.proofs.GroupsBack.{group_equates, group_reads_back}
 use Rattle.obo_notes.proofs.Guards.{same_bytes, where_true_some}

@@ -27,7 +27,8 @@ use Rattle.text_sets.specs.Parts.{each_some, first_some}
 use Rattle.text_sets.specs.Sorted.{Rises, sorted_by}
 use Rattle.text_sets.proofs.PartLemmas.{each_some-parts, first_some-found, option_and_then_some, option_map_some, option_or_some}
 use Rattle.text_sets.proofs.SortedLemmas.{sorted_by-only}
-use Rattle.obo_mapping.specs.Axioms.{Framed, Home, at_home, axiom_spelled, body_spelled, declaring, frame_id, frame_kind, framed, home_at, home_of, id_clause, is_declared, is_logical, metadata_clause, name_as, statement_spelled}
+use Rattle.obo_frames.specs.Framed.{Framed, framed, id_clause}
+use Rattle.obo_mapping.specs.Axioms.{Home, at_home, axiom_spelled, body_spelled, declaring, frame_id, frame_kind, home_at, home_of, is_declared, is_logical, metadata_clause, name_as, statement_spelled}
 use Rattle.obo_notes.specs.Context.{Agree, Reading, Writing}
 use Rattle.obo_mapping.specs.Documents.{clauses_for, group_spelled, has_reserved_key, is_raw}
 use Rattle.obo_notes.specs.Forms.{note_of}
@@ -38,6 +39,9 @@ use Rattle.obo_notes.specs.Notes.{qualifiers_of, spelling}
 use Rattle.obo_statements.specs.Statements.{statement_spelling}
 use Rattle.obo_statements.specs.Anchors.{anchors, class_anchor}
 use Rattle.obo_statements.specs.Groups.{Group, clauses_with, group_clauses, group_in_body, group_operands, group_spelling, group_tag, intersection, operand_value, other_expr, union}
+use Rattle.obo_notes.specs.Laws.{IsInPrintedOrder}
+use Rattle.obo_notes.proofs.PrintedOrder.{spelled_note_is_in_order}
+use Rattle.obo_statements.proofs.PrintedLists.{statement_in_order}
 use Rattle.obo_statements.proofs.StatementsBack.{statement_reads_back}
 use Rattle.obo_notes.proofs.NoteLaws.{note_reads_back}
 use Rattle.obo_mapping.proofs.PlainClauses.{IsNote, IsStatementIn, is_note, is_statement, note_no_reserved, statement_no_reserved}
@@ -134,6 +138,7 @@ module _ (reading : Reading) (writing : Writing) (agree : Agree reading writing)
     pub place : IsPlaced f
     pub note : IsNote f.clause
     pub six : has_reserved_key f ≡ false
+    pub order : IsInPrintedOrder f.clause
 
   pub record IsStatementClause (a : Axiom) (f : Framed) : Type 0 where
     pub kind : Kind
@@ -147,6 +152,7 @@ module _ (reading : Reading) (writing : Writing) (agree : Agree reading writing)
     pub says : IsStatementIn (frame_kind kind) clause
     pub fits : Fits (frame_kind kind) false clause
     pub six : list_any (λ (q : Qualifier). is_reserved_key q.key) clause.qualifiers ≡ false
+    pub order : IsInPrintedOrder clause
 
   pub record IsGroupClause (a : Axiom) (f : Framed) : Type 0 where
     pub iri : List ℕ
@@ -176,7 +182,7 @@ module _ (reading : Reading) (writing : Writing) (agree : Agree reading writing)
 
   note_shape : (a : Axiom) (kind : FrameKind) (id : List ℕ) (note : Note) (c : Clause) → IsPlaced (framed kind id c) → Rises side_text note.sides → spelling writing kind note ≡ Some c → AloneShape a (framed kind id c)
   note_shape a kind id note c place rises is =
-      inr (inr (inl (record { fits = spelled_note_fits reading writing agree kind note c is; place = place; note = is_note reading c note (note_reads_back reading writing agree kind note c rises is); six = note_no_reserved writing kind note c is })))
+      inr (inr (inl (record { fits = spelled_note_fits reading writing agree kind note c is; place = place; note = is_note reading c note (note_reads_back reading writing agree kind note c rises is); six = note_no_reserved writing kind note c is; order = spelled_note_is_in_order writing kind note c is })))
 
   declaring_shape : (kind : Kind) (iri id : List ℕ) (a : Axiom) (f : Framed) → a.body ≡ body.Declaration (name_as kind iri) → frame_id writing (name_as kind iri) ≡ Some id → In f (declaring (name_as kind iri) id) → AloneShape a f
   declaring_shape kinds.AnnotationProperty iri id a f says has here =
@@ -189,7 +195,7 @@ module _ (reading : Reading) (writing : Writing) (agree : Agree reading writing)
   declaring_shape kinds.Individual iri id a f says has here = ⊎_elim (λ same. inl (record { name = name_as kinds.Individual iri; id = id; says = says; has = has; same = same })) (λ none. absurd none) here
 
   statement_shape : (a : Axiom) (cs : List Framed) (f : Framed) → IsStatement a.body → is_proper_body a.body ≡ true → Rises side_text a.sides → statement_spelled writing declared a ≡ Some cs → In f cs → AloneShape a f
-  statement_shape a cs f stated_plainly proper rises is here =
+  statement_shape a cs f logical proper rises is here =
       let home = option_and_then_some (λ (home : Home). option_map (at_home home) (statement_spelling writing (frame_kind home.entity.kind) home.entity.iri a)) (home_of writing declared a.body) cs is in
       let clause = option_map_some (at_home home.0) (statement_spelling writing (frame_kind home.0.entity.kind) home.0.entity.iri a) cs home.2 in
       let at = home_is writing declared a.body home.0 home.1 in
@@ -202,12 +208,13 @@ module _ (reading : Reading) (writing : Writing) (agree : Agree reading writing)
         id = home.0.id;
         clause = clause.0;
         same = same;
-        logical = anchors_logical a.body stated_plainly entity at.among;
+        logical = anchors_logical a.body logical entity at.among;
         known = at.declared;
         has = at.id;
         says = is_statement reading (frame_kind entity.kind) entity.iri clause.0 a back.0;
         six = statement_no_reserved writing (frame_kind entity.kind) entity.iri a clause.0 clause.1;
         fits = spelled_statement_fits reading writing agree entity.iri (frame_kind entity.kind) a clause.0 clause.1;
+        order = statement_in_order reading writing agree entity.iri (frame_kind entity.kind) a clause.0 clause.1;
       }))))
       (λ none. absurd none)
       (subst (In f) (sym clause.2) here)

@@ -8,6 +8,7 @@ use Rattle.obo_tags.specs.declared.kind.FrameKind.{FrameKind}
 use Rattle.obo_tags.specs.declared.kind.FrameKind.TheVariants.{Header, Instance, Term, Typedef}
 use Rattle.obo_clause.specs.declared.clause.Clause.{Clause}
 use Rattle.obo_clause.specs.declared.clause.Value.TheVariants as value
+use Rattle.obo_frames.specs.Framed.{Framed, framed, id_clause}
 use Rattle.owl_axioms.specs.declared.annotation.Side.{Side}
 use Rattle.owl_axioms.specs.declared.body.Axiom.{Axiom}
 use Rattle.owl_axioms.specs.declared.body.Body.{Body}
@@ -22,15 +23,6 @@ use Rattle.obo_notes.specs.declared.note.Note.{Note}
 use Rattle.obo_notes.specs.Notes.{meaning, spelling}
 use Rattle.obo_statements.specs.Statements.{statement_meaning, statement_spelling}
 use Rattle.obo_statements.specs.Anchors.{anchors}
-
--- a clause in its frame, without its line
-pub record Framed : Type 0 where
-  pub frame : FrameKind
-  pub id : List ℕ
-  pub clause : Clause
-
-abbrev pub framed : FrameKind → List ℕ → Clause → Framed
-framed kind id clause = record { frame = kind; id = id; clause = clause }
 
 -- how ids are read in a document, and which IRIs name annotation properties there
 pub record Situation : Type 0 where
@@ -127,9 +119,6 @@ home_at writing declared name = where_true (is_declared declared name) (option_m
 -- the least of the ids of the declared anchors
 abbrev pub home_of : Writing → List Name → Body → Option Home
 home_of writing declared said = first_part (sorted_by (λ (h : Home). h.id) (filter_map (home_at writing declared) (anchors said)))
-
-abbrev pub id_clause : List ℕ → Clause
-id_clause id = record { tag = codes "id"; value = value.Id id; qualifiers = [] }
 
 abbrev pub metadata_clause : Clause
 metadata_clause = record { tag = codes "is_metadata_tag"; value = value.Bool true; qualifiers = [] }

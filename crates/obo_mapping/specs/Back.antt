@@ -1,6 +1,6 @@
 -- The document of an ontology, and what it says: the axioms, with the namespaces of frames that have none. (Own.)
-use Rattle.std.specs.Prelude.{◌≡◌, ℕ, List, [], ◌++◌, Option, Some}
-use Rattle.std.specs.List.{filter_map}
+use Rattle.std.specs.Prelude.{◌≡◌, ℕ, Bool, List, [], ◌++◌, Option, Some, is_some}
+use Rattle.std.specs.List.{filter_map, list_all}
 use Rattle.std.specs.Option.{IsSome, option_to_list}
 use Rattle.iri_map.specs.Ontology.{name_or_temp, normalised}
 use Rattle.obo_clause.specs.declared.clause.Clause.{Clause}
@@ -8,7 +8,8 @@ use Rattle.text_sets.specs.Sets.{In, SameMembers}
 use Rattle.owl_axioms.specs.Proper.{IsProper}
 use Rattle.owl_axioms.specs.declared.body.Axiom.{Axiom}
 use Rattle.owl_axioms.specs.declared.name.Kind.TheVariants as kinds
-use Rattle.obo_mapping.specs.Axioms.{Framed, name_as}
+use Rattle.obo_frames.specs.Framed.{Framed}
+use Rattle.obo_mapping.specs.Axioms.{name_as}
 use Rattle.obo_notes.specs.Context.{Writing, writing_in}
 use Rattle.obo_mapping.specs.Documents.{clauses_for, declared_in, header_with, name_of, owl, spaced, spelled}
 use Rattle.obo_mapping.specs.Sound.{IsSound}
@@ -32,6 +33,10 @@ pub record IsSpellable (name : Option (List ℕ)) (axioms : List Axiom) : Type 0
   pub normal : (value : List ℕ) → In value (option_to_list name) → normalised value ≡ value
   pub proper : (one : Axiom) → In one axioms → IsProper one
   pub formed : (one : Axiom) → In one axioms → IsSome (clauses_for (writing_of name) (filter_map declared_in axioms) one)
+
+-- each axiom has a form, and the entity in whose frame it stands is declared
+unfoldable pub spellable : Option (List ℕ) → List Axiom → Bool
+spellable name axioms = list_all (λ one. is_some (clauses_for (writing_of name) (filter_map declared_in axioms) one)) axioms
 
 -- the document says the axioms, with their namespaces, under the same name
 pub record SaysAgain (name : Option (List ℕ)) (axioms : List Axiom) : Type 0 where

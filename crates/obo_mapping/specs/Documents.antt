@@ -19,7 +19,8 @@ use Rattle.owl_axioms.specs.declared.body.Body.TheVariants as body
 use Rattle.owl_axioms.specs.declared.name.Name.{Name}
 use Rattle.text_sets.specs.Parts.{first_some}
 use Rattle.text_sets.specs.Sorted.{sorted_by}
-use Rattle.obo_mapping.specs.Axioms.{Framed, Home, Situation, axiom_spelled, axioms_said, entity_of, frame_kind, framed, home_of, is_metadata}
+use Rattle.obo_frames.specs.Framed.{Framed, framed}
+use Rattle.obo_mapping.specs.Axioms.{Home, Situation, axiom_spelled, axioms_said, entity_of, frame_kind, home_of, is_metadata}
 use Rattle.obo_notes.specs.Context.{Reading, Writing, datatype_iri, datatype_word, reading_in, where_true, writing_in}
 use Rattle.obo_notes.specs.Forms.{first_part}
 use Rattle.obo_notes.specs.Keys.{is_reserved_key, key_of, key_property}

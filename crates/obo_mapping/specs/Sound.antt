@@ -7,7 +7,7 @@ use Rattle.obo_clause.specs.declared.clause.Clause.{Clause}
 use Rattle.obo_clause.specs.Fits.{Fits}
 use Rattle.owl_axioms.specs.Text.{expr_text}
 use Rattle.owl_axioms.specs.declared.expr.ClassExpr.{ClassExpr}
-use Rattle.obo_mapping.specs.Axioms.{Framed, framed, id_clause}
+use Rattle.obo_frames.specs.Framed.{Framed, framed, id_clause}
 use Rattle.obo_mapping.specs.Documents.{group_in, group_of, has_tag, is_header, is_raw, situation_of}
 use Rattle.obo_statements.specs.Groups.{Group, operand_plainly}
 

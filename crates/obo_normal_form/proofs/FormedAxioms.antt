@@ -38,7 +38,8 @@ use Rattle.text_sets.specs.Parts.{each_some, first_some}
 use Rattle.text_sets.specs.Sorted.{Rises, by_text, sorted_by, sorted_on}
 use Rattle.text_sets.proofs.PartLemmas.{each_some-parts, each_some-some, first_some-found, first_some-some, option_map_some}
 use Rattle.text_sets.proofs.SortedLemmas.{Rises-sorted_by, sorted_by-only}
-use Rattle.obo_mapping.specs.Axioms.{Framed, Home, Situation, at_home, axiom_spelled, body_spelled, entity_of, frame_id, frame_kind, framed, home_at, home_of, is_logical, name_as, same_kind, statement_spelled}
+use Rattle.obo_frames.specs.Framed.{Framed, framed}
+use Rattle.obo_mapping.specs.Axioms.{Home, Situation, at_home, axiom_spelled, body_spelled, entity_of, frame_id, frame_kind, home_at, home_of, is_logical, name_as, same_kind, statement_spelled}
 use Rattle.obo_notes.specs.Context.{Reading, Writing, where_true, writing_in}
 use Rattle.obo_mapping.specs.Documents.{clauses_for, declared_in, group_in, group_of, group_spelled, has_reserved_key, has_tag, is_broken, is_header, is_import, is_misfit, is_raw, is_term, is_truth_value, is_untranslatable, owl, situation_of, space_of}
 use Rattle.obo_notes.specs.Forms.{first_part}

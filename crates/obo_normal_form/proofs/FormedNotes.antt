@@ -34,7 +34,8 @@ use Rattle.owl_axioms.specs.declared.name.Name.{Name}
 use Rattle.text_sets.specs.Sorted.{Rises, sorted_by, sorted_on}
 use Rattle.text_sets.proofs.PartLemmas.{option_and_then_some, option_map_some}
 use Rattle.text_sets.proofs.SortedLemmas.{Rises-sorted_by, sorted_by-only}
-use Rattle.obo_mapping.specs.Axioms.{Framed, Home, Situation, at_home, axiom_spelled, body_spelled, declaring, entity_of, frame_id, frame_kind, framed, home_at, is_declared, is_metadata, name_as, note_axiom, ontology_axiom}
+use Rattle.obo_frames.specs.Framed.{Framed, framed}
+use Rattle.obo_mapping.specs.Axioms.{Home, Situation, at_home, axiom_spelled, body_spelled, declaring, entity_of, frame_id, frame_kind, home_at, is_declared, is_metadata, name_as, note_axiom, ontology_axiom}
 use Rattle.obo_notes.specs.Context.{Agree, Reading, Writing, reading_in, where_true, writing_in}
 use Rattle.obo_mapping.specs.Documents.{clauses_for, declared_in, default_in, group_spelled, has_reserved_key, has_tag, is_header, is_import, is_misfit, is_raw, is_truth_value, is_untranslatable, kept_with, owl, situation_of, space_of, text_in}
 use Rattle.obo_notes.specs.Forms.{Form, literal, note_of, said}

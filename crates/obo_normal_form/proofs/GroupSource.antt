@@ -23,7 +23,8 @@ use Rattle.owl_axioms.specs.declared.expr.ClassExpr.TheViews.{roll-ClassExpr}
 use Rattle.text_sets.specs.Parts.{each_some}
 use Rattle.text_sets.specs.Sorted.{sorted_by}
 use Rattle.text_sets.proofs.PartLemmas.{option_and_then_some, option_map_some}
-use Rattle.obo_mapping.specs.Axioms.{Framed, Situation}
+use Rattle.obo_frames.specs.Framed.{Framed}
+use Rattle.obo_mapping.specs.Axioms.{Situation}
 use Rattle.obo_notes.specs.Context.{Reading, Writing}
 use Rattle.obo_mapping.specs.Documents.{group_in, group_of, is_untranslatable, owl, situation_of}
 use Rattle.obo_notes.specs.Keys.{side_of_qualifier}

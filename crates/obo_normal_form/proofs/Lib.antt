@@ -6,6 +6,7 @@ pub mod NormFacts
 pub mod NormLaw
 pub mod NormSound
 pub mod OwlCases
+pub mod PrintedOrder
 pub mod ProperOwl
 pub mod SettleLaws
 pub mod ShortGroups

@@ -10,7 +10,7 @@ use Rattle.text_sets.specs.Sets.{In, SameMembers}
 use Rattle.text_sets.specs.Sorted.{sorted_by}
 use Rattle.text_sets.proofs.PartLemmas.{option_map_some}
 use Rattle.text_sets.proofs.SortedLemmas.{sorted_by-only}
-use Rattle.obo_mapping.specs.Axioms.{Framed}
+use Rattle.obo_frames.specs.Framed.{Framed}
 use Rattle.obo_notes.specs.Context.{where_true, writing_in}
 use Rattle.obo_mapping.specs.Documents.{has_tag, header_with, is_header, is_import, is_misfit, is_of_metadata, is_other_name, is_raw, is_said_elsewhere, is_untranslatable, kept, kept_with, name_of, names_in, norm, owl, situation_of, space_of, spaced, spelled, word_in}
 use Rattle.obo_normal_form.specs.NormLaws.{IsWhole, NormOfAxioms, NormOnce, NormSays, OwlSpaced}

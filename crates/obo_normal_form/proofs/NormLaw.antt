@@ -21,7 +21,8 @@ use Rattle.text_sets.proofs.SetLemmas.{In-append, In-append_left, In-append_righ
 use Rattle.text_sets.specs.Sets.{In, SameMembers}
 use Rattle.text_sets.specs.Sorted.{sorted_by}
 use Rattle.text_sets.proofs.PartLemmas.{option_cases, option_map_some}
-use Rattle.obo_mapping.specs.Axioms.{Framed, Situation, axiom_said, entity_of, framed, is_metadata, name_as, ontology_axiom, said_at}
+use Rattle.obo_frames.specs.Framed.{Framed, framed}
+use Rattle.obo_mapping.specs.Axioms.{Situation, axiom_said, entity_of, is_metadata, name_as, ontology_axiom, said_at}
 use Rattle.obo_notes.specs.Context.{Agree, Reading, Writing, reading_in, where_true, writing_in}
 use Rattle.obo_mapping.specs.Documents.{as_kept, declared_in, group_in, group_of, group_said, group_with, has_reserved_key, has_tag, header_with, is_broken, is_header, is_import, is_misfit, is_of_metadata, is_other_name, is_raw, is_said_elsewhere, is_term, is_truth_value, is_typedef, is_untranslatable, kept, kept_with, name_of, names_in, norm, owl, situation_of, spaced, space_of, spelled, text_in, word_in}
 use Rattle.obo_notes.specs.Forms.{first_part}

@@ -35,7 +35,8 @@ use Rattle.owl_axioms.specs.declared.name.Name.{Name}
 use Rattle.text_sets.specs.Sorted.{sorted_by, sorted_on}
 use Rattle.text_sets.proofs.PartLemmas.{option_cases, option_map_some}
 use Rattle.text_sets.proofs.SortedLemmas.{sorted_by-only}
-use Rattle.obo_mapping.specs.Axioms.{Framed, entity_of, frame_id, frame_kind, framed, id_clause, is_metadata, metadata_clause, name_as}
+use Rattle.obo_frames.specs.Framed.{Framed, framed, id_clause}
+use Rattle.obo_mapping.specs.Axioms.{entity_of, frame_id, frame_kind, is_metadata, metadata_clause, name_as}
 use Rattle.obo_notes.specs.Context.{Agree, Reading, Writing, datatype_iri, datatype_word, reading_in, writing_in}
 use Rattle.obo_mapping.specs.Documents.{as_kept, clauses_for, declared_in, has_tag, header_with, is_header, is_raw, is_typedef, kept, norm, owl, settled, settled_clause, settled_qualifier, settled_value, situation_of, space_of, spelled}
 use Rattle.obo_normal_form.specs.NormLaws.{NormIsFramed}

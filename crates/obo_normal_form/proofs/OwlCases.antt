@@ -19,7 +19,8 @@ use Rattle.owl_axioms.specs.declared.name.Name.{Name}
 use Rattle.text_sets.proofs.SetLemmas.{In-append, In-append_left, In-append_right, In-filter, In-filter_map, In-from_filter, In-from_filter_map}
 use Rattle.text_sets.specs.Sets.{In}
 use Rattle.text_sets.proofs.PartLemmas.{option_and_then_some, option_cases, option_map_some, option_or_some}
-use Rattle.obo_mapping.specs.Axioms.{Framed, Situation, axiom_said, declared_by, entity_of, framed, id_clause, is_logical, is_metadata, name_as, note_axiom, ontology_axiom, said_at, said_of}
+use Rattle.obo_frames.specs.Framed.{Framed, framed, id_clause}
+use Rattle.obo_mapping.specs.Axioms.{Situation, axiom_said, declared_by, entity_of, is_logical, is_metadata, name_as, note_axiom, ontology_axiom, said_at, said_of}
 use Rattle.obo_notes.specs.Context.{Reading, reading_in, where_true}
 use Rattle.obo_mapping.specs.Documents.{declared_in, default_in, group_of, group_said, has_tag, is_header, is_namespace, is_raw, is_truth_value, is_typedef, is_untranslatable, kept_with, owl, situation_of, spaced, space_of, text_in}
 use Rattle.obo_notes.specs.declared.note.Note.{Note}

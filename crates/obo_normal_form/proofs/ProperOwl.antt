@@ -31,7 +31,8 @@ use Rattle.text_sets.specs.Parts.{each_some}
 use Rattle.text_sets.specs.Sorted.{Rises, sorted_by}
 use Rattle.text_sets.proofs.PartLemmas.{first_some-found, option_and_then_some, option_map_some}
 use Rattle.text_sets.proofs.SortedLemmas.{sorted_by-only}
-use Rattle.obo_mapping.specs.Axioms.{Framed, Situation, axiom_said, entity_of}
+use Rattle.obo_frames.specs.Framed.{Framed}
+use Rattle.obo_mapping.specs.Axioms.{Situation, axiom_said, entity_of}
 use Rattle.obo_mapping.specs.Back.{OwlIsSpellable}
 use Rattle.obo_notes.specs.Context.{Agree, Reading, Writing, datatype_by, datatype_iri, is_text, where_true, writing_in, xsd_prefix}
 use Rattle.obo_mapping.specs.Documents.{declared_in, has_tag, is_header, name_of, names_in, owl, situation_of, space_of, word_in}

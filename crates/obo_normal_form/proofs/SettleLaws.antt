@@ -18,7 +18,7 @@ use Rattle.clause_printer.specs.Printing.{qualifier_text, xref_text}
 use Rattle.text_sets.specs.Sorted.{sorted_by}
 use Rattle.text_sets.proofs.PartLemmas.{option_cases}
 use Rattle.text_sets.proofs.SortedLemmas.{sorted_again, sorted_by-each, sorted_by-only}
-use Rattle.obo_mapping.specs.Axioms.{Framed, framed}
+use Rattle.obo_frames.specs.Framed.{Framed, framed}
 use Rattle.obo_notes.specs.Context.{Agree, Reading, Writing, datatype_iri, datatype_word}
 use Rattle.obo_mapping.specs.Documents.{has_reserved_key, has_tag, is_header, is_raw, is_truth_value, is_typedef, settled, settled_qualifier, settled_value, text_in}
 use Rattle.obo_notes.specs.Keys.{is_reserved_key, key_of, key_property}

@@ -27,7 +27,8 @@ use Rattle.owl_axioms.specs.declared.expr.ClassExpr.TheViews.{roll-ClassExpr}
 use Rattle.text_sets.specs.Parts.{each_some}
 use Rattle.text_sets.specs.Sorted.{by_text, sorted_by, sorted_on}
 use Rattle.text_sets.proofs.PartLemmas.{each_some-items, each_some-parts, each_some-some, option_map_some}
-use Rattle.obo_mapping.specs.Axioms.{Framed, Situation, framed}
+use Rattle.obo_frames.specs.Framed.{Framed, framed}
+use Rattle.obo_mapping.specs.Axioms.{Situation}
 use Rattle.obo_notes.specs.Context.{Agree, Reading, Writing, writing_in}
 use Rattle.obo_normal_form.proofs.SettleLaws as settle
 use Rattle.obo_notes.proofs.Guards.{same_bytes, where_true_some}

@@ -1,7 +1,8 @@
 -- What the normal form of a document amounts to. (Own.)
 use Rattle.std.specs.Prelude.{◌≡◌, false, List, []}
 use Rattle.text_sets.specs.Sets.{In, SameMembers}
-use Rattle.obo_mapping.specs.Axioms.{Framed}
+use Rattle.obo_notes.specs.Laws.{IsInPrintedOrder}
+use Rattle.obo_frames.specs.Framed.{Framed}
 use Rattle.obo_mapping.specs.Documents.{is_import, is_untranslatable, name_of, norm, owl, spaced}
 use Rattle.obo_mapping.specs.Sound.{IsFramed, IsSound}
 
@@ -38,3 +39,7 @@ NormIsFramed = (d : List Framed) → IsSound d → IsFramed (norm d)
 -- the normal form of a sound document is sound
 abbrev pub NormIsSound : Type 0
 NormIsSound = (d : List Framed) → IsSound d → IsSound (norm d)
+
+-- in each clause of the normal form the xref list and the qualifiers rise by what is printed of them
+abbrev pub NormIsInOrder : Type 0
+NormIsInOrder = (d : List Framed) → IsSound d → (f : Framed) → In f (norm d) → IsInPrintedOrder f.clause

@@ -1,6 +1,6 @@
 //! What normal forms amount to. Each law is the contract of a function that does nothing.
 ghost use Rattle.obo_mapping.specs.Back.{OwlIsSpellable};
-ghost use Rattle.obo_normal_form.specs.NormLaws.{NormIsSound, NormOfAxioms, NormOnce, NormSays, OwlSpaced};
+ghost use Rattle.obo_normal_form.specs.NormLaws.{NormIsInOrder, NormIsSound, NormOfAxioms, NormOnce, NormSays, OwlSpaced};
 
 /// The normal form has the name and the axioms of the document.
 pub fn norm_says()
@@ -30,4 +30,9 @@ pub fn owl_is_spellable()
 /// The normal form of a sound document is sound.
 pub fn norm_is_sound()
     ensures { NormIsSound }
+{}
+
+/// In each clause of the normal form the xref list and the qualifiers stand in the order of what is printed of them.
+pub fn norm_is_in_order()
+    ensures { NormIsInOrder }
 {}

@@ -5,5 +5,6 @@
 mod laws;
 
 pub use laws::{
-    norm_is_of_axioms, norm_is_sound, norm_once, norm_says, owl_is_spaced, owl_is_spellable,
+    norm_is_in_order, norm_is_of_axioms, norm_is_sound, norm_once, norm_says, owl_is_spaced,
+    owl_is_spellable,
 };

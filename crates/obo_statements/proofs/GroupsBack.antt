@@ -98,7 +98,7 @@ module _ (reading : Reading) (writing : Writing) (agree : Agree reading writing)
           → (group_meaning reading x group others ≡ Some (record { body = said; sides = sides })) × ((c : Clause) × In c clauses)
       by_body (body.Equiv c d) sides proper rises is = (
         group_is_plain reading x group others (λ clause here. group_free writing x group c d sides clauses is clause ((same clause).0 here))
-        ∙ group_reads_set reading writing agree group x c d sides clauses others (pair_in_order c d proper).0 (rising c d proper) rises is same,
+            ∙ group_reads_set reading writing agree group x c d sides clauses others (pair_in_order c d proper).0 (rising c d proper) rises is same,
         group_has_clause reading writing agree group x c d sides clauses (rising c d proper) is,
       )
       by_body _ sides proper rises is = absurd (none-some clauses is)

@@ -1,6 +1,7 @@
 pub mod GroupLaws
 pub mod GroupsBack
 pub mod PlainMeaning
+pub mod PrintedLists
 pub mod Rising
 pub mod SpelledFits
 pub mod StatementLaws

@@ -97,7 +97,7 @@ module _ (reading : Reading) (writing : Writing) (agree : Agree reading writing)
       let no_note : option_and_then (λ form. said reading form v.0) (form_of row.0.tag) ≡ None = ap (option_and_then (λ form. said reading form v.0)) (Rattle.obo_notes.proofs.Guards.none_from_is_none (form_of row.0.tag) apart.0) in
       subst (λ (z : Clause). (statement_meaning reading kind x z ≡ Some one) × (meaning reading z ≡ None) × (bytes_eq z.tag (codes "id") ≡ false)) made.2 (
         meaning_is_plain reading kind x c (no_extras made.0 (no_reserved one.sides made.0 made.1))
-        ∙ ap (option_map (λ b. let a : Axiom = record { body = b; sides = sorted_sides (map side_of_qualifier made.0) } in a)) stated_is ∙ (λ i. Some (record { body = one.body; sides = sides i })),
+            ∙ ap (option_map (λ b. let a : Axiom = record { body = b; sides = sorted_sides (map side_of_qualifier made.0) } in a)) stated_is ∙ (λ i. Some (record { body = one.body; sides = sides i })),
         ap (option_map (with_qualifiers made.0)) no_note,
         not-true (bytes_eq row.0.tag (codes "id")) apart.1,
       )
