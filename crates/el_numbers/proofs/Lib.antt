@@ -1,0 +1,10 @@
+pub mod IndexLemmas
+pub mod NoneLemmas
+pub mod ConcludeLemmas
+pub mod PutLemmas
+pub mod AddLemmas
+pub mod LoopLemmas
+pub mod StartLemmas
+pub mod OrderLemmas
+pub mod CountLemmas
+pub mod ProperLemmas

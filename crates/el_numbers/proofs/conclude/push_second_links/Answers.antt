@@ -1,0 +1,7 @@
+use Rattle.std.proofs.Common.{sym, ◌∙◌, length}
+use Rattle.std.proofs.lemmas.Bool.{eqb-true}
+use Rattle.el_numbers.proofs.NoneLemmas.{second_links_none, same_end}
+use Rattle.el_numbers.proofs.conclude.push_second_links.Goals as goal
+
+pub returns-then-is_empty : goal.returns-then-is_empty
+returns-then-is_empty c = same_end c.args.out.now.items _ (second_links_none c.args.d c.args.second.now c.args.back.now (eqb-true (length c.args.second.now) 0 (sym c.is_empty.ensures ∙ c.if-is_empty.true)))

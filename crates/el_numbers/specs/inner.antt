@@ -1,0 +1,5 @@
+pub mod Conclude
+pub mod Fits
+pub mod Going
+pub mod Indexes
+pub mod Storing
