@@ -1,0 +1,5 @@
+pub mod Lists
+pub mod PartLemmas
+pub mod PoolLemmas
+pub mod ProperLemmas
+pub mod SameCell

@@ -1,0 +1,105 @@
+//! `Pool`: each tree once, with one look-up a node.
+ghost use Rattle.std.specs.Prelude.{◌≡◌, ◌<◌, ◌≤◌, ◌↔◌, [], Some, IsTrue, IfOk, length, slice_get, take};
+ghost use Rattle.expr_pool.specs.Pool.{AreDifferent, Grew, IsBefore, tree_at, tree_of};
+
+use crate::intern::node_of_tree;
+use crate::{Cell, Node};
+use indexmap::IndexSet;
+use owl_axioms::ClassExpr;
+use rel_io::NoMemory;
+use std::alloc::Global;
+use std::marker::Model;
+
+/// A pool of trees: seen as the list of the trees of its nodes, in the order in which they came.
+#[derive(Drop)]
+pub struct Pool {
+    alloc: Global,
+    cells: IndexSet<Cell>,
+}
+
+impl Model for Pool {
+    ghost use Rattle.std.specs.Prelude.{List};
+    ghost use Rattle.std.specs.Coded.{coded_list};
+    ghost use Rattle.owl_axioms.specs.declared.expr.ClassExpr.{ClassExpr};
+    ghost use Rattle.owl_axioms.specs.contracts.expr.ClassExpr as row;
+    ghost use Rattle.expr_pool.specs.Pool.{IsPool, trees_of};
+
+    ghost Value = { List ClassExpr };
+
+    ghost coded = { coded_list row.the_row.coded };
+
+    ghost view = { λ p. trees_of p.cells.keys };
+
+    ghost invariant = { λ p. IsPool p.cells.keys };
+}
+
+impl Pool {
+    /// A pool without nodes.
+    pub fn new(alloc: Global) -> Result<Pool, NoMemory>
+        ensures { IfOk result (λ p. p ≡ []) }
+    {
+        Ok(Pool {
+            alloc,
+            cells: IndexSet::new(alloc),
+        })
+    }
+
+    /// The node of a tree: the one that is there, or a new one behind all others, with nodes for its parts before it. It
+    /// takes time in proportion to the tree. After `NoMemory` some of its parts may have nodes.
+    pub fn intern(&mut self, tree: &ClassExpr) -> Result<Node, NoMemory>
+        ensures kept { Grew self.old self.new }
+        ensures node { IfOk result (λ n. slice_get self.new n.place ≡ Some tree.now) }
+    {
+        node_of_tree(self.alloc, &mut self.cells, tree)
+    }
+
+    /// The cell of a node: the layer of its tree, whose parts are earlier nodes.
+    pub fn node(&self, node: Node) -> &Cell
+        requires { node.place < length self.now }
+        ensures cell { slice_get self.now node.place ≡ Some (tree_of self.now result.now) }
+        ensures before { IsBefore node.place result.now }
+    {
+        self.cells.get_index(node.place as usize).unwrap()
+    }
+
+    /// Whether two nodes are one: exactly where their trees are equal.
+    pub fn same(&self, a: Node, b: Node) -> bool
+        requires a { a.place < length self.now }
+        requires b { b.place < length self.now }
+        ensures { IsTrue result ↔ (tree_at self.now a ≡ tree_at self.now b) }
+    {
+        let _cells = &self.cells;
+        a.place == b.place
+    }
+
+    /// The number of nodes. Each has a tree of its own.
+    pub fn len(&self) -> u64
+        ensures len { result ≡ length self.now }
+        ensures different { AreDifferent self.now }
+    {
+        self.cells.len() as u64
+    }
+
+    /// The node of a place.
+    pub fn at(&self, place: u64) -> Node
+        requires { place < length self.now }
+        ensures { result.place ≡ place }
+    {
+        Node { place }
+    }
+
+    /// Takes all nodes out.
+    pub fn clear(&mut self)
+        ensures { self.new ≡ [] }
+    {
+        self.cells.clear();
+    }
+
+    /// Keeps the first nodes, as after a call that failed.
+    pub fn cut(&mut self, len: u64)
+        requires { len ≤ length self.old }
+        ensures { self.new ≡ take len self.old }
+    {
+        self.cells.truncate(len as usize);
+    }
+}
