@@ -7,6 +7,7 @@ use Rattle.owl_axioms.specs.declared.expr.ClassExpr.TheVariants as expr
 use Rattle.owl_axioms.specs.declared.expr.ClassExpr.TheViews.{out-roll-ClassExpr, roll-ClassExpr}
 use Rattle.expr_pool.proofs.Lists.{both, lt_from, none_some}
 use Rattle.expr_pool.proofs.PoolLemmas.{is_before_more}
+use Rattle.expr_pool.specs.Laws.{PartsAreThere}
 use Rattle.expr_pool.specs.Part.{AreBefore, AreClosed, AreMarked, AreReached, AreSound, start, part, In, IsMarked, Keeps, flag_nodes, here, layer_parts, parts_at, parts_of, there}
 use Rattle.expr_pool.specs.Pool.{is_before, nodes_of, tree_at, tree_of}
 use Rattle.expr_pool.specs.declared.cell.Cell.{Cell}
@@ -157,3 +158,11 @@ closed_next ts at done fs gs e kept parts reached closed i lt le m = elim (reach
 
 pub keeps_next : (fs gs hs : List Bool) → Keeps fs gs → Keeps gs hs → Keeps fs hs
 keeps_next fs gs hs a b i m = b i (a i m)
+
+-- the parts of a tree have nodes before its own
+pub parts_there : (ts : List ClassExpr) (at : ℕ) (c : Cell) → PartsAreThere ts at c
+parts_there ts at c fits before t i =
+    let n = in_map (tree_at ts) (nodes_of c) t (subst (In t) (parts_of_cell ts c) i) in
+    let below : n.0.place < at = all_in at (nodes_of c) n.0 before n.1 in
+    let within : n.0.place < length ts = omega (arith, below, fits) in
+    (n.0.place, below, slice_get-get_or ts n.0.place expr.Thing within ∙ ap Some n.2)
