@@ -1,6 +1,6 @@
 //! The IRIs of the annotation properties that clauses have, and of datatypes.
 ghost use Rattle.std.specs.Prelude.{◌≡◌, codes};
-ghost use Rattle.owl_axioms.specs.Text as text;
+ghost use Rattle.owl_axioms.specs.Vocabulary as owl;
 ghost use Rattle.obo_notes.specs.Vocabulary as spec;
 
 /// What the IRI of each property of oboInOwl begins with.
@@ -38,7 +38,7 @@ pub fn xsd_boolean() -> &'static [u8]
 /// The property of names and of labels.
 #[tactic(auto, unfolding(owl_axioms::specs::Vocabulary::rdfs_label))]
 pub fn rdfs_label() -> &'static [u8]
-    ensures { result.now ≡ text.rdfs_label }
+    ensures { result.now ≡ owl.rdfs_label }
 {
     b"http://www.w3.org/2000/01/rdf-schema#label"
 }
