@@ -1,0 +1,3 @@
+//! One module for each crate whose answers are compared.
+mod pools;
+mod signatures;
