@@ -39,7 +39,31 @@ fn operands(alloc: Global) -> Result<Vec<ClassExpr>, NoMemory> {
     pair(alloc, a, b)
 }
 
-/// The tree of a number: the classes a and b, what has some b, the intersection and the union of a and that, and Thing.
+/// The intersection of the class b and of another intersection.
+fn nested(alloc: Global) -> Result<ClassExpr, NoMemory> {
+    let inner = operands(alloc).map(|operands| ClassExpr::And(Items::from_vec(operands)))?;
+    let b = class(alloc, b'b')?;
+    let both = pair(alloc, b, inner)?;
+    Ok(ClassExpr::And(Items::from_vec(both)))
+}
+
+/// The tree of a number over what has some filler in b: its complement, and what has only it, or counts of it.
+fn over_with_b(alloc: Global, number: u8) -> Result<ClassExpr, NoMemory> {
+    let role = role(alloc)?;
+    let part = with_b(alloc)?;
+    let part = Boxed::new(alloc, part)?;
+    Ok(match number {
+        6 => ClassExpr::Not(part),
+        7 => ClassExpr::All(role, part),
+        8 => ClassExpr::Min(2, role, part),
+        9 => ClassExpr::Max(2, role, part),
+        10 => ClassExpr::Exact(2, role, part),
+        _ => ClassExpr::Exact(3, role, part),
+    })
+}
+
+/// The tree of a number: the classes a and b, what has some b, the intersection and the union of a and that, Thing,
+/// Nothing, an intersection in an intersection, and those over what has some b.
 fn tree(alloc: Global, number: u8) -> Result<ClassExpr, NoMemory> {
     match number {
         0 => class(alloc, b'a'),
@@ -47,7 +71,10 @@ fn tree(alloc: Global, number: u8) -> Result<ClassExpr, NoMemory> {
         2 => with_b(alloc),
         3 => operands(alloc).map(|operands| ClassExpr::And(Items::from_vec(operands))),
         4 => operands(alloc).map(|operands| ClassExpr::Or(Items::from_vec(operands))),
-        _ => Ok(ClassExpr::Thing),
+        5 => Ok(ClassExpr::Thing),
+        12 => Ok(ClassExpr::Nothing),
+        13 => nested(alloc),
+        _ => over_with_b(alloc, number),
     }
 }
 
@@ -102,6 +129,30 @@ fn trees_are_interned(rt: HostRuntime) -> Result<(), Fail> {
         [(1, 0, 1), (0, 1, 2), (3, 3, 4)].as_slice(),
     )?;
     assert!(rt; again);
+    Ok(())
+}
+
+/// Each constructor has a node of its own over the part that they share, each number of fillers too, and an intersection
+/// that stands in another one is not taken apart.
+#[test]
+fn each_constructor_is_interned(rt: HostRuntime) -> Result<(), Fail> {
+    let alloc = rt.alloc();
+    let mut pool = Pool::new(alloc)?;
+    let wanted = [
+        (12, 0, 1),
+        (6, 3, 4),
+        (7, 4, 5),
+        (8, 5, 6),
+        (9, 6, 7),
+        (10, 7, 8),
+        (11, 8, 9),
+        (8, 5, 9),
+        (13, 11, 12),
+        (3, 10, 12),
+        (0, 9, 12),
+    ];
+    let as_wanted = are_interned(alloc, &mut pool, wanted.as_slice())?;
+    assert!(rt; as_wanted);
     Ok(())
 }
 
