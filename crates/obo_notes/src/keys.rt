@@ -56,7 +56,7 @@ fn is_key(key: &[u8]) -> bool
 
 /// Whether the key has a meaning of its own.
 #[tactic(auto, unfolding(crate::specs::Keys::is_reserved_key))]
-fn is_reserved_key(key: &[u8]) -> bool
+pub fn is_reserved_key(key: &[u8]) -> bool
     ensures { result ≡ spec.is_reserved_key key.now }
 {
     b"all_only".as_slice() == key

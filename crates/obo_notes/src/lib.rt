@@ -19,8 +19,11 @@ mod texts;
 mod vocabulary;
 
 pub use clause::clause_of;
+pub use keys::{is_reserved_key, qualifier_of, side_of_qualifier};
 pub use laws::{
     each_note_has_clause, note_reads_back, spelled_notes_are_in_order, spelled_notes_fit,
 };
 pub use note::Note;
 pub use said::note_of;
+pub use sorting::{Printed, sorted};
+pub use taking::qualifiers_of;

@@ -1,14 +1,14 @@
 //! Items in the order of what is printed of them, each once.
 ghost use Rattle.std.specs.Prelude.{◌≡◌, ◌++◌, ℕ, IfOk, List, OnOk, map};
-ghost use Rattle.clause_printer.specs.Printing.{qualifier_text, xref_text};
+ghost use Rattle.clause_printer.specs.Printing.{qualifier_text, value_text, xref_text};
 ghost use Rattle.owl_axioms.specs.Text.{side_text};
 ghost use Rattle.text_sets.specs.Keyed.{items_of, key_of};
 ghost use Rattle.text_sets.specs.Sets.{AreTold};
 ghost use Rattle.text_sets.specs.Sorted.{sorted_by};
 
 use crate::side_text::push_side;
-use clause_printer::{push_qualifier, push_xref};
-use obo_clause::{Qualifier, Xref};
+use clause_printer::{push_qualifier, push_value, push_xref};
+use obo_clause::{Qualifier, Value, Xref};
 use owl_axioms::Side;
 use rel_io::{Items, NoMemory};
 use std::alloc::Global;
@@ -37,6 +37,14 @@ impl Printed for Qualifier {
 
     fn push_text(&self, out: &mut Vec<u8>) -> Result<(), NoMemory> {
         push_qualifier(out, self)
+    }
+}
+
+impl Printed for Value {
+    ghost text = { value_text };
+
+    fn push_text(&self, out: &mut Vec<u8>) -> Result<(), NoMemory> {
+        push_value(out, self)
     }
 }
 
