@@ -1,3 +1,4 @@
+pub mod GroupClauses
 pub mod GroupLaws
 pub mod GroupsBack
 pub mod PlainMeaning
@@ -6,3 +7,4 @@ pub mod Rising
 pub mod SpelledFits
 pub mod StatementLaws
 pub mod StatementsBack
+pub mod TaggedLemmas
