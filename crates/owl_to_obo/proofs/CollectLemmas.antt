@@ -1,18 +1,15 @@
 -- What an ontology gives frames, collected axiom by axiom.
-use Rattle.std.proofs.Common.{◌≡◌, ◌+◌, ◌<◌, ◌≤◌, ℕ, zero, suc, Bool, true, false, List, [], ◌∷◌, ◌++◌, Option, None, Some, codes, map, refl, sym, ap, subst, ◌∙◌, add-one, append-nil, append_assoc, get_or, length, slice_get, take, take_all, unwrap_or, if◌then◌else◌}
+use Rattle.std.proofs.Common.{◌≡◌, ◌+◌, ◌<◌, ℕ, zero, suc, List, [], ◌∷◌, ◌++◌, Option, None, Some, codes, map, refl, sym, ap, ◌∙◌, add-one, append-nil, append_assoc, get_or, length, slice_get, take, unwrap_or}
 use Rattle.std.specs.List.{cons_option, filter_map, flat_map}
-use Rattle.std.specs.Option.{option_map, option_to_list}
+use Rattle.std.specs.Option.{option_to_list}
 use Rattle.std.proofs.lemmas.Grind.{flat_map-append}
 use Rattle.std.proofs.lemmas.List.Elements.{filter_map-append}
 use Rattle.std.proofs.lemmas.Option.{none-some, same_Some}
 use Rattle.obo_tags.specs.Tags as tags
 use Rattle.owl_axioms.proofs.Adding.{take_suc}
 use Rattle.owl_axioms.specs.declared.annotation.NoteValue.{NoteValue}
-use Rattle.owl_axioms.specs.declared.annotation.Side.{Side}
 use Rattle.owl_axioms.specs.declared.body.Axiom.{Axiom}
-use Rattle.owl_axioms.specs.declared.body.Body.{Body}
 use Rattle.owl_axioms.specs.declared.body.Body.TheVariants as body
-use Rattle.owl_axioms.specs.declared.name.Kind.{Kind}
 use Rattle.owl_axioms.specs.declared.name.Kind.TheVariants as kinds
 use Rattle.owl_axioms.specs.declared.name.Name.{Name}
 use Rattle.owl_ontology.specs.Ontology.{Entry, axioms_of, entry_of, origins_of}
@@ -23,7 +20,7 @@ use Rattle.obo_notes.specs.Context.{Writing}
 use Rattle.obo_notes.proofs.LoopLemmas.{next_taken}
 use Rattle.obo_mapping.specs.Axioms.{name_as}
 use Rattle.obo_mapping.specs.Documents.{clauses_for}
-use Rattle.obo_mapping.specs.TwoValues.{Given, given, kind_given, notes_given}
+use Rattle.obo_mapping.specs.TwoValues.{given, kind_given, notes_given}
 use Rattle.owl_to_obo.specs.inner.Collected.{note_given}
 
 last_one : {B : Type 0} (o : Option B) → cons_option o [] ≡ option_to_list o

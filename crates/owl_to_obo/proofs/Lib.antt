@@ -1,8 +1,10 @@
 pub mod BackKept
 pub mod BackSound
 pub mod CollectLemmas
+pub mod JoinedValues
 pub mod KeptLemmas
 pub mod SameDeclared
 pub mod ScanLemmas
+pub mod ToldFrom
 pub mod ToldLemmas
 pub mod TwoLemmas

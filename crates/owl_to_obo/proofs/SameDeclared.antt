@@ -1,5 +1,5 @@
 -- What an ontology gives frames goes by the set of the declared entities.
-use Rattle.std.proofs.Common.{◌≡◌, ◌++◌, ◌&&◌, ℕ, Bool, List, [], ◌∷◌, Option, codes, refl, sym, ap, ◌∙◌, if◌then◌else◌, unwrap_or}
+use Rattle.std.proofs.Common.{◌≡◌, ◌++◌, ◌&&◌, ℕ, Bool, List, [], ◌∷◌, codes, refl, sym, ap, ◌∙◌, if◌then◌else◌, unwrap_or}
 use Rattle.std.specs.List.{cons_option, filter_map, flat_map, join_by}
 use Rattle.std.specs.Option.{option_and_then, option_map, option_to_list}
 use Rattle.std.specs.Str.{bytes_eq}
@@ -20,11 +20,10 @@ use Rattle.obo_notes.specs.Forms.{first_part}
 use Rattle.obo_statements.specs.Anchors.{anchors}
 use Rattle.obo_statements.specs.Groups.{Group, group_spelling, group_tag, intersection, union}
 use Rattle.obo_mapping.specs.Axioms.{Home, frame_id, frame_kind, home_of, name_as, same_kind}
-use Rattle.obo_mapping.specs.Documents.{clauses_for, declared_in}
-use Rattle.obo_mapping.specs.TwoValues as spec
+use Rattle.obo_mapping.specs.Documents.{declared_in}
 use Rattle.obo_mapping.specs.TwoValues.{Given, given, group_given, kind_given, notes_given, printed, subject_of}
 use Rattle.obo_mapping.proofs.OfSet.{any_same, clauses-same}
-use Rattle.owl_to_obo.specs.inner.Collected.{all_given, given_by, is_single}
+use Rattle.owl_to_obo.specs.inner.Collected.{all_given, is_single}
 use Rattle.owl_to_obo.proofs.ToldLemmas.{frame_of_is}
 
 module _ (space : List ℕ) (one other : List Name) (same : SameMembers one other) where

@@ -1,5 +1,5 @@
 -- The loop over neighbours, turn by turn.
-use Rattle.std.proofs.Common.{◌≡◌, ◌+◌, ◌<◌, ◌≤◌, ℕ, true, false, suc, List, [], ◌∷◌, Option, None, Some, map, refl, sym, ap, ◌∙◌, add-one, drop, drop-cons, get_or, length, if◌then◌else◌}
+use Rattle.std.proofs.Common.{◌≡◌, ◌+◌, ◌<◌, ◌≤◌, ℕ, true, false, List, ◌∷◌, Option, None, Some, map, sym, ap, ◌∙◌, add-one, drop, drop-cons, get_or, length, if◌then◌else◌}
 use Rattle.std.proofs.lemmas.List.{drop_all}
 use Rattle.obo_mapping.specs.TwoValues.{TwoGiven, clash}
 use Rattle.owl_to_obo.specs.Clashes.{given_meant}

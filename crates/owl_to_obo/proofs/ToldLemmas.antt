@@ -29,7 +29,7 @@ use Rattle.obo_notes.proofs.Guards.{where_true_some}
 use Rattle.obo_statements.specs.Groups.{Group, group_spelling, group_tag, intersection, union}
 use Rattle.obo_mapping.specs.Axioms.{Home, frame_kind, home_of, is_declared, name_as}
 use Rattle.obo_mapping.specs.Documents.{clauses_for}
-use Rattle.obo_mapping.specs.TwoValues.{Given, frame_of, given, given_key, group_given, kind_given, notes_given, printed, rank, subject_of}
+use Rattle.obo_mapping.specs.TwoValues.{Given, frame_of, given, given_key, group_given, kind_given, notes_given, printed, subject_of}
 use Rattle.owl_to_obo.specs.Clashes.{given_meant}
 use Rattle.owl_to_obo.specs.declared.given.Given as program
 use Rattle.owl_to_obo.specs.inner.Collected.{all_given, given_by, is_single, note_given}

@@ -1,6 +1,5 @@
 -- The least two values that clash stand among neighbours of the sorted list.
 use Rattle.std.proofs.Common.{◌≡◌, ◌==◌, ◌&&◌, ◌||◌, ℕ, Bool, true, false, not, List, [], ◌∷◌, Option, None, Some, filter, inl, inr, ⊎_elim, refl, sym, ap, subst, ◌∙◌, eq-eqb, eqb-true, suc, zero, if◌then◌else◌}
-use Rattle.std.specs.Cmp.Lexicographic.{slice_cmp}
 use Rattle.std.specs.List.{list_any}
 use Rattle.std.specs.Option.{option_and_then, option_map, option_to_list}
 use Rattle.std.specs.Ordering.{ordering_then}
@@ -10,7 +9,7 @@ use Rattle.std.specs.declared.cmp.Ordering.TheVariants.{Equal, Greater, Less}
 use Rattle.std.proofs.lemmas.Bool.{and_parts, both_ways, cases_Bool, false_from_ne_true}
 use Rattle.iri_map.proofs.CandidateLemmas.{bytes_eq-refl}
 use Rattle.text_sets.specs.Sets.{AreTold, In, SameMembers}
-use Rattle.text_sets.specs.Sorted.{IsBelowOn, RisesOn, by_key, sorted_on, text_cmp, texts_cmp}
+use Rattle.text_sets.specs.Sorted.{IsBelowOn, RisesOn, sorted_on, text_cmp, texts_cmp}
 use Rattle.text_sets.proofs.KeyLemmas.{RisesOn-sorted_on, sorted_on-each, sorted_on-is, sorted_on-only}
 use Rattle.text_sets.proofs.SetLemmas.{In-filter, In-from_filter}
 use Rattle.text_sets.proofs.SortedLemmas.{by_text_total, text_not_below_itself, text_order, texts_order}

@@ -1,5 +1,5 @@
 -- Two values of one tag of one frame, found among neighbours. (Own.)
-use Rattle.std.specs.Prelude.{ℕ, Bool, ◌==◌, ◌&&◌, List, [], ◌∷◌, Option, None, Some, if◌then◌else◌}
+use Rattle.std.specs.Prelude.{Bool, ◌==◌, ◌&&◌, List, [], ◌∷◌, Option, None, Some, if◌then◌else◌}
 use Rattle.std.specs.Str.{bytes_eq}
 use Rattle.obo_mapping.specs.TwoValues.{Given, TwoGiven, clash, rank}
 

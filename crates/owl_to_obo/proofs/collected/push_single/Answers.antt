@@ -1,7 +1,6 @@
-use Rattle.std.proofs.Common.{◌++◌, List, ap, append-nil, map, sym, take_all, ◌∙◌}
+use Rattle.std.proofs.Common.{◌++◌, ap, append-nil, map, sym, take_all, ◌∙◌}
 use Rattle.std.proofs.lemmas.List as lists
 use Rattle.std.specs.List.{filter_map}
-use Rattle.owl_axioms.specs.declared.name.Name.{Name}
 use Rattle.obo_frames.specs.declared.placed.Placed.{Placed}
 use Rattle.obo_notes.specs.Context.{writing_in}
 use Rattle.owl_to_obo.specs.Clashes.{given_meant}

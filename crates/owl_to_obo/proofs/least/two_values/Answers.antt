@@ -1,18 +1,15 @@
-use Rattle.std.proofs.Common.{List, ap, map, subst, sym, ◌≡◌, ◌∙◌}
+use Rattle.std.proofs.Common.{ap, map, subst, sym, ◌∙◌}
 use Rattle.std.specs.List.{filter_map}
 use Rattle.std.proofs.lemmas.Result.{IfOk-weaker}
 use Rattle.iri_map.specs.Ontology.{name_or_temp}
 use Rattle.text_sets.specs.Sets.{AreTold, SameMembers}
-use Rattle.text_sets.specs.Sorted.{sorted_on, texts_cmp}
 use Rattle.obo_notes.specs.Context.{writing_in}
-use Rattle.owl_axioms.specs.declared.name.Name.{Name}
 use Rattle.owl_ontology.specs.Ontology.{Entry}
 use Rattle.obo_mapping.specs.Documents.{declared_in}
 use Rattle.obo_mapping.specs.TwoValues.{given_key, two_given, two_values}
 use Rattle.owl_to_obo.specs.Clashes.{given_meant}
 use Rattle.owl_to_obo.specs.inner.Clashing.{first_clash}
 use Rattle.owl_to_obo.specs.inner.Collected.{all_given}
-use Rattle.owl_to_obo.specs.inner.Order.{key_of}
 use Rattle.owl_to_obo.proofs.SameDeclared.{declared_same, given_same}
 use Rattle.owl_to_obo.proofs.ToldLemmas.{given_told, meant_sorted, program_told}
 use Rattle.owl_to_obo.proofs.TwoLemmas.{two_is}
