@@ -1,5 +1,7 @@
 pub mod GroupLaws
 pub mod GroupsBack
+pub mod MeaningLoops
+pub mod MeaningTexts
 pub mod PlainMeaning
 pub mod PrintedLists
 pub mod Rising
