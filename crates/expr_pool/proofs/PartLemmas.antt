@@ -5,10 +5,11 @@ use Rattle.owl_axioms.specs.declared.expr.ClassExpr.{ClassExpr}
 use Rattle.owl_axioms.specs.declared.expr.ClassExpr.TheOpen.{ClassExpr-F}
 use Rattle.owl_axioms.specs.declared.expr.ClassExpr.TheVariants as expr
 use Rattle.owl_axioms.specs.declared.expr.ClassExpr.TheViews.{out-roll-ClassExpr, roll-ClassExpr}
+use Rattle.fact_rows.specs.Member.{In, here, there}
 use Rattle.expr_pool.proofs.Lists.{both, lt_from, none_some}
 use Rattle.expr_pool.proofs.PoolLemmas.{is_before_more}
 use Rattle.expr_pool.specs.Laws.{PartsAreThere}
-use Rattle.expr_pool.specs.Part.{AreBefore, AreClosed, AreMarked, AreReached, AreSound, start, part, In, IsMarked, Keeps, flag_nodes, here, layer_parts, parts_at, parts_of, there}
+use Rattle.expr_pool.specs.Part.{AreBefore, AreClosed, AreMarked, AreReached, AreSound, start, part, IsMarked, Keeps, flag_nodes, layer_parts, parts_at, parts_of}
 use Rattle.expr_pool.specs.Pool.{is_before, nodes_of, tree_at, tree_of}
 use Rattle.expr_pool.specs.declared.cell.Cell.{Cell}
 use Rattle.expr_pool.specs.declared.cell.Cell.TheVariants as cell
