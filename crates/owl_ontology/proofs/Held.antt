@@ -3,11 +3,10 @@ use Rattle.std.proofs.Common.{◌≡◌, ◌<◌, true, false, if◌then◌else�
 use Rattle.std.proofs.lemmas.List.Elements.{Contains-append_cases, Contains-append_right, Contains-get_or, Contains-push_cases}
 use Rattle.owl_axioms.proofs.Same.{same_axiom-true}
 use Rattle.owl_axioms.specs.Same.{same_axiom}
-use Rattle.owl_ontology.specs.Ontology.{Entry, IsHeld, add_entry, axioms_of}
+use Rattle.owl_ontology.specs.Ontology.{Entry, IsHeld, add_entries, add_entry, axioms_of}
 use Rattle.owl_ontology.specs.Origins.{lesser}
 use Rattle.owl_axioms.specs.declared.body.Axiom.{Axiom}
 use Rattle.owl_ontology.specs.declared.origin.Origin.{Origin}
-use Rattle.term_frames.specs.Mapping.{add_all}
 
 -- ---- lists
 
@@ -63,11 +62,11 @@ added_is_held (e ∷ entries) a o =
 
 -- ---- many entries more
 
-pub add_all-append : (held first second : List Entry) → add_all held (first ++ second) ≡ add_all (add_all held first) second
-add_all-append held [] second = refl
-add_all-append held (e ∷ first) second = add_all-append (add_entry e.axiom e.origin held) first second
+pub add_entries-append : (held first second : List Entry) → add_entries held (first ++ second) ≡ add_entries (add_entries held first) second
+add_entries-append held [] second = refl
+add_entries-append held (e ∷ first) second = add_entries-append (add_entry e.axiom e.origin held) first second
 
-pub all_held_or_added : (held added : List Entry) (b : Axiom) → IsHeld b (add_all held added) → IsHeld b held ⊎ IsHeld b added
+pub all_held_or_added : (held added : List Entry) (b : Axiom) → IsHeld b (add_entries held added) → IsHeld b held ⊎ IsHeld b added
 all_held_or_added held [] b here = inl here
 all_held_or_added held (e ∷ added) b here =
     ⊎_elim
@@ -75,14 +74,14 @@ all_held_or_added held (e ∷ added) b here =
     (λ later. inr (is_later e.axiom (axioms_of added) b later))
     (all_held_or_added (add_entry e.axiom e.origin held) added b here)
 
-pub all_held_stays : (held added : List Entry) (b : Axiom) → IsHeld b held → IsHeld b (add_all held added)
+pub all_held_stays : (held added : List Entry) (b : Axiom) → IsHeld b held → IsHeld b (add_entries held added)
 all_held_stays held [] b here = here
 all_held_stays held (e ∷ added) b here = all_held_stays (add_entry e.axiom e.origin held) added b (held_stays held e.axiom b e.origin here)
 
-pub all_added_is_held : (held added : List Entry) (b : Axiom) → IsHeld b added → IsHeld b (add_all held added)
+pub all_added_is_held : (held added : List Entry) (b : Axiom) → IsHeld b added → IsHeld b (add_entries held added)
 all_added_is_held held [] b here = absurd (none_in_nothing b here)
 all_added_is_held held (e ∷ added) b here =
     ⊎_elim
-    (λ is. subst (λ x. IsHeld x (add_all held (e ∷ added))) is (all_held_stays (add_entry e.axiom e.origin held) added e.axiom (added_is_held held e.axiom e.origin)))
+    (λ is. subst (λ x. IsHeld x (add_entries held (e ∷ added))) is (all_held_stays (add_entry e.axiom e.origin held) added e.axiom (added_is_held held e.axiom e.origin)))
     (λ later. all_added_is_held (add_entry e.axiom e.origin held) added b later)
     (first_or_later e.axiom (axioms_of added) b here)
