@@ -18,3 +18,4 @@ pub use laws::{
     group_reads_back, spelled_groups_fit, spelled_statements_fit, statement_reads_back,
 };
 pub use meaning::statement_of;
+pub use statements::is_statement;
