@@ -24,3 +24,4 @@ pub use laws::{
 };
 pub use meaning::statement_of;
 pub use spelling::clause_of_statement;
+pub use statements::is_statement;
