@@ -10,4 +10,5 @@ mod Order
 mod ReadLemmas
 mod ScanLemmas
 mod Sound
+mod Spelled
 mod Turns

@@ -18,6 +18,7 @@ use Rattle.chain_words.specs.declared.setting.Setting.{Setting}
 use Rattle.chain_words.specs.declared.setting.Setting.TheVariants as setting
 use Rattle.chain_words.specs.declared.given.Given.{Given}
 use Rattle.chain_words.specs.declared.draft.Draft.{Draft}
+use Rattle.chain_words.specs.declared.draft.Part.{Part}
 use Rattle.chain_words.specs.declared.draft.Asked.{Asked}
 use Rattle.chain_words.proofs.Accepted.{begun_is, ok_is, ok_not, ok_then, ok_unless}
 use Rattle.chain_words.proofs.Front.{find_passes}
@@ -80,6 +81,17 @@ undashed_command (command.Step step.Reason) = refl
 undashed_command (command.Step step.Relax) = refl
 undashed_command (command.Step step.Reduce) = refl
 undashed_command (command.Step step.Convert) = refl
+
+-- so no command word is an option
+pub no_option : (here : Part) (c : CommandWord) → option_of here (command_word c) ≡ None
+no_option here c = by_option (option_of here (command_word c)) refl
+  where
+    by_option : (found : Option OptionWord) → option_of here (command_word c) ≡ found → found ≡ None
+    by_option None found = refl
+    by_option (Some o) found =
+        let words : option_word o ≡ command_word c = (bytes_decides (option_word o) (command_word c)).0 (find_passes (λ p. same (option_word p) (command_word c)) (options here) o found) in
+        let e : ◌≡◌ {A = Bool} true false = sym (dashed_option o) ∙ ap dashed words ∙ undashed_command c in
+        absurd cc
 
 -- the option of a setting
 abbrev pub option_in : Setting → OptionWord
@@ -184,13 +196,9 @@ free_command draft at c after is = by_place draft.asked is
         let told = ok_then (ended draft.part draft.at draft.given) (begun (all_outputs draft) d at) after is in
         sym (ap (λ e. e.asked) (begun_is draft d at told.0 after told.2).2)
 
-    by_word : (found : Option OptionWord) (d : Option CommandWord) → option_of draft.part (command_word c) ≡ found → at_word found d draft at ≡ Ok after → after.asked ≡ None
-    by_word (Some o) d found is =
-        let words : option_word o ≡ command_word c = (bytes_decides (option_word o) (command_word c)).0 (find_passes (λ p. same (option_word p) (command_word c)) (options draft.part) o found) in
-        let e : ◌≡◌ {A = Bool} true false = sym (dashed_option o) ∙ ap dashed words ∙ undashed_command c in
-        absurd cc
-    by_word None (Some d) found is = by_chain d is
-    by_word None None found is = ok_not _ after is
+    by_word : (d : Option CommandWord) → at_word None d draft at ≡ Ok after → after.asked ≡ None
+    by_word (Some d) is = by_chain d is
+    by_word None is = ok_not _ after is
 
     by_setting : (asked : Asked) (told : Option Setting) → at_setting draft told at ≡ Ok after → after.asked ≡ None
     by_setting asked (Some told) is = sym (ap (λ d. d.asked) (ok_is (with_given draft told at) after is))
@@ -198,4 +206,4 @@ free_command draft at c after is = by_place draft.asked is
 
     by_place : (asked : Option Asked) → at_place asked draft at (command_word c) ≡ Ok after → after.asked ≡ None
     by_place (Some asked) is = by_setting asked (setting_of asked.option (command_word c)) is
-    by_place None is = by_word (option_of draft.part (command_word c)) (command_of (command_word c)) refl is
+    by_place None is = by_word (command_of (command_word c)) (sym (ap (λ o. at_word o (command_of (command_word c)) draft at) (no_option draft.part c)) ∙ is)
