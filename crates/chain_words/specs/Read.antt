@@ -1,24 +1,27 @@
 -- What the words ask for: the whole definition. (Own.)
-use Rattle.std.specs.Prelude.{ℕ, List, [], ◌∷◌, length, nat_lt, Option, Some, None, Ok, if◌then◌else◌}
+use Rattle.std.specs.Prelude.{ℕ, ◌+◌, List, [], ◌∷◌, length, nat_lt, Option, Some, None, Ok, if◌then◌else◌}
 use Rattle.chain_words.specs.Word.{Word}
+use Rattle.chain_words.specs.Table.{command_of}
 use Rattle.chain_words.specs.Number.{size_of}
-use Rattle.chain_words.specs.Reading.{Reading, bad}
-use Rattle.chain_words.specs.Scan.{command_of, scan}
+use Rattle.chain_words.specs.Fault.{Reading, bad, then_read}
+use Rattle.chain_words.specs.Given.{nothing}
+use Rattle.chain_words.specs.Draft.{at_end, turn}
 use Rattle.chain_words.specs.declared.fault.WordKind.TheVariants.{TooMany, NoCommand, MissingOption, BadValue, UnknownWord}
 use Rattle.chain_words.specs.declared.table.CommandWord.{CommandWord}
 use Rattle.chain_words.specs.declared.table.CommandWord.TheVariants as command
 use Rattle.chain_words.specs.declared.draft.Draft.{Draft}
+use Rattle.chain_words.specs.declared.draft.Part.TheVariants.{Merge}
 use Rattle.chain_words.specs.declared.command.Command.{Command}
 use Rattle.chain_words.specs.declared.command.Command.TheVariants.{Generate}
 
 -- before the second word of a chain: nothing is known but its `merge`
 abbrev pub at_merge : Draft
-at_merge = record {
-  chain = record { inputs = []; catalog = None; first = None; steps = [] };
-  earlier = [];
-  phrase = record { command = command.Merge; at = 0; settings = [] };
-  asked = None;
-}
+at_merge = record { part = Merge; at = 0; given = nothing; outputs = []; asked = None }
+
+-- the words that are left, from this index on
+abbrev pub scan : Draft → ℕ → List Word → Reading Command
+scan draft at [] = at_end draft.asked draft
+scan draft at (word ∷ rest) = then_read (turn draft at word) (λ next. scan next (at + 1) rest)
 
 -- behind `generate` and its number no word follows
 abbrev pub only_size : Option ℕ → List Word → Reading Command
