@@ -143,6 +143,14 @@ module _ (reading : Reading) (writing : Writing) (agree : Agree reading writing)
       read_more [] = refl
       read_more (w ∷ vs) = ap (λ o. option_and_then (λ y. option_map (λ ys. y ∷ ys) o) (operand_plainly reading group w)) (read_more vs)
 
+  -- the values of operands are told by what is printed of them
+  pub told_values : (operands : List ClassExpr) (values : List Value) → each_some (operand_value writing group) operands ≡ Some values → AreTold value_text values
+  told_values operands values is = λ v w p q same.
+      let back = operand-back group id_value-back in
+      let a = each_some-parts (operand_value writing group) operands values is v p in
+      let b = each_some-parts (operand_value writing group) operands values is w q in
+      same_operand v w (back a.0 v a.2).1 (back b.0 w b.2).1 same
+
   -- the operands are read, in some order
   pub operands_read : (operands : List ClassExpr) (values : List Value) → each_some (operand_value writing group) operands ≡ Some values
       → (found : List ClassExpr) × (each_some (operand_plainly reading group) (sorted_by value_text values) ≡ Some found) × SameMembers found operands

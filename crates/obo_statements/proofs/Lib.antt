@@ -1,3 +1,4 @@
+pub mod GroupClauses
 pub mod GroupLaws
 pub mod GroupsBack
 pub mod MeaningLoops
@@ -8,3 +9,4 @@ pub mod Rising
 pub mod SpelledFits
 pub mod StatementLaws
 pub mod StatementsBack
+pub mod TaggedLemmas

@@ -1,5 +1,5 @@
 //! The tags of statements, and what a clause of each states.
-ghost use Rattle.std.specs.Prelude.{◌≡◌, map};
+ghost use Rattle.std.specs.Prelude.{◌≡◌, is_some, map};
 ghost use Rattle.std.specs.Option.{option_map};
 ghost use Rattle.text_sets.specs.Parts.{first_some};
 ghost use Rattle.obo_statements.specs.Statements.{statement_in, statements_of};
@@ -86,6 +86,13 @@ pub fn statement_with(kind: FrameKind, tag: &[u8]) -> Option<Statement>
         }
     }
     None
+}
+
+/// Whether clauses of a tag state something in frames of a kind.
+pub fn is_statement(kind: FrameKind, tag: &[u8]) -> bool
+    ensures { result ≡ is_some (first_some (statement_in tag.now) (statements_of kind)) }
+{
+    statement_with(kind, tag).is_some()
 }
 
 /// In a Term.

@@ -41,6 +41,11 @@ add_entry a origin (e ∷ entries) =
     then record e { origin = lesser origin e.origin } ∷ entries
     else e ∷ add_entry a origin entries
 
+-- entries one after another: each axiom once, in the order in which they come, with its least origin
+abbrev pub add_entries : List Entry → List Entry → List Entry
+add_entries held [] = held
+add_entries held (entry ∷ entries) = add_entries (add_entry entry.axiom entry.origin held) entries
+
 -- the first flag, or false where there is none
 abbrev pub first_flag : List Bool → Bool
 first_flag [] = false
