@@ -59,6 +59,7 @@ pub record TurnsSoFar (names : BTreeMap (List ℕ) (List ℕ)) (inputs : List (L
   pub holds : now.holds ≡ start.holds
   pub counts : NoCountFell start now
   pub few : left ≤ limits.bytes
+  pub within : length sources ≤ limits.files
   pub ahead : (lines : List CatalogLine) (files : Files) → TellsNames lines names → start.holds ≡ Some files → IsAhead sources (turns (setting files lines limits) (limits.files - length sources) left (listed_in rows) (length sources)) (closure (setting files lines limits) inputs)
 
 minus_nothing : (n : ℕ) → n - 0 ≡ n
@@ -80,6 +81,7 @@ turns_begin names inputs limits start rows is = record {
   holds = refl;
   counts = record { read_faults = omega arith; write_faults = omega arith; misses = omega arith };
   few = omega arith;
+  within = omega arith;
   ahead = λ lines files tells told. same_ahead _ _ (λ i. turns (setting files lines limits) (minus_nothing limits.files i) limits.bytes (is i) 0);
 }
 
@@ -109,6 +111,7 @@ turn_taken names inputs limits start now next rows more sources left taken so_fa
   holds = holds ∙ so_far.holds;
   counts = no_count_fell start now next so_far.counts counts;
   few = let few = so_far.few in omega arith;
+  within = let long = one_more sources taken.source in let within = has.within in omega arith;
   ahead = λ lines files tells told.
       let s = setting files lines limits in
       let at = length sources in

@@ -1,5 +1,5 @@
 //! `read_files`: the inputs and what they import, one turn after the other.
-ghost use Rattle.std.specs.Prelude.{◌≡◌, ◌+◌, ◌^◌, ◌<◌, List, length};
+ghost use Rattle.std.specs.Prelude.{◌≡◌, ◌+◌, ◌^◌, ◌<◌, ◌≤◌, IfOk, List, length};
 ghost use Rattle.std.specs.Option.{option_copied};
 ghost use Rattle.indexmap.specs.IndexMap.{index_map_len};
 ghost use Rattle.rel_io.specs.FolderState.{NoCountFell};
@@ -52,6 +52,7 @@ pub fn read_files<F: Folder>(
 ) -> Result<Items<SourceFile>, LoadFault>
     requires few { limits.now.bytes + 1 < 2 ^ 32 }
     ensures reads { LoadsAs Same (λ files. reading files inputs.now (option_copied catalog.entry) limits.now) (F.state folder.old) result (F.state folder.new) }
+    ensures few { IfOk result (λ sources. length sources ≤ limits.now.files) }
     ensures holds { (F.state folder.new).holds ≡ (F.state folder.old).holds }
     ensures counts { NoCountFell (F.state folder.old) (F.state folder.new) }
 {
@@ -70,6 +71,7 @@ fn read_listed<F: Folder>(
     requires few { limits.now.bytes + 1 < 2 ^ 32 }
     ensures reads { (lines : List CatalogLine) → TellsNames lines names.now
         → LoadsAs Same (λ files. closure (setting files lines limits.now) inputs.now) (F.state folder.old) result (F.state folder.new) }
+    ensures few { IfOk result (λ sources. length sources ≤ limits.now.files) }
     ensures holds { (F.state folder.new).holds ≡ (F.state folder.old).holds }
     ensures counts { NoCountFell (F.state folder.old) (F.state folder.new) }
 {

@@ -47,3 +47,7 @@ returns-clause-reads g c lines tells =
     let start = g.F.Folder.state c.args.folder.now in
     subst (λ (sources : List SourceFile). IfSome start.holds (λ files. GivesAs Same (closure (setting files lines c.args.limits.now) c.args.inputs.now).answer sources)) (sym c.from_vec.ensures)
     (turns_taken c.args.names.now c.args.inputs.now c.args.limits.now start (g.F.Folder.state c.turns.folder) c.turns.list.entries c.turns.sources.items c.turns.left lines c.turns.invariant past tells)
+
+pub returns-clause-few : goal.returns-clause-few
+returns-clause-few g c =
+    subst (λ (sources : List SourceFile). length sources ≤ c.args.limits.now.files) (sym c.from_vec.ensures) c.turns.invariant.within
