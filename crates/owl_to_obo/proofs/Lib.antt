@@ -1,0 +1,3 @@
+pub mod BackKept
+pub mod BackSound
+pub mod KeptLemmas
