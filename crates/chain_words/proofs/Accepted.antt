@@ -7,7 +7,7 @@ use Rattle.chain_words.specs.Given.{nothing, stands_again}
 use Rattle.chain_words.specs.Number.{size_of}
 use Rattle.chain_words.specs.Fault.{Reading, Bad, then_read}
 use Rattle.chain_words.specs.Step.{plain_output, step_of}
-use Rattle.chain_words.specs.Draft.{all_outputs, at_command, at_end, at_place, at_setting, at_word, begun, begun_by as step_begun, ended, option_of, turn, with_given}
+use Rattle.chain_words.specs.Draft.{all_outputs, at_command, at_end, at_place, at_setting, at_word, begun, step_begun, ended, option_of, turn, with_given}
 use Rattle.chain_words.specs.Read.{all_words, at_merge, begun_by, chain, generated, only_size, scan}
 use Rattle.chain_words.specs.declared.fault.WordKind.TheVariants.{TooMany}
 use Rattle.chain_words.specs.declared.table.CommandWord.{CommandWord}

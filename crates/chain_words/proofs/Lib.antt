@@ -10,5 +10,6 @@ mod Order
 mod ReadLemmas
 mod ScanLemmas
 mod Sound
+mod Spans
 mod Spelled
 mod Turns

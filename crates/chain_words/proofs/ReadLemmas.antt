@@ -5,7 +5,8 @@ use Rattle.std.proofs.lemmas.List.{length-map}
 use Rattle.std.specs.Bool.{◌==◌}
 use Rattle.std.specs.Result.{IfErr, IfOk}
 use Rattle.chain_words.specs.Word.{Word}
-use Rattle.chain_words.specs.Fault.{Answers, IsBadWord, Reading}
+use Rattle.chain_words.specs.Fault.{IsBadWord, Reading}
+use Rattle.chain_words.specs.inner.Answers.{Answers}
 use Rattle.chain_words.specs.Table.{command_of}
 use Rattle.chain_words.specs.Read.{all_words, begun_by, chain, most_words}
 use Rattle.chain_words.specs.declared.fault.WordFault.{WordFault}

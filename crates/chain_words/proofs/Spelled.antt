@@ -15,7 +15,7 @@ use Rattle.chain_words.specs.Command.{is_one_of, output_names, reads_of, times, 
 use Rattle.chain_words.specs.Clash.{first_clash}
 use Rattle.chain_words.specs.Draft.{all_outputs, at_end, at_place, at_word, begun, ended, option_of, tested, turn}
 use Rattle.chain_words.specs.Read.{all_words, at_merge, chain, scan}
-use Rattle.chain_words.specs.Laws.{HasItsOutput, IsPlain, IsPlainUnlessConvert, IsWellFormed, check_options, format_options, merge_settings, name_options, output_options, spelled, step_settings, step_words, tells, word_of, words_of}
+use Rattle.chain_words.specs.Laws.{HasItsOutput, IsPlain, IsPlainUnlessConvert, IsWellFormed, check_options, format_options, merge_settings, name_options, output_options, spelled, step_settings, step_words, tells, step_command, words_of}
 use Rattle.chain_words.specs.declared.fault.WordKind.TheVariants.{TooMany}
 use Rattle.chain_words.specs.declared.table.CommandWord.TheVariants as word
 use Rattle.chain_words.specs.declared.table.StepWord.{StepWord}
@@ -120,16 +120,16 @@ told_is (Some Ofn) Obo is = absurd cc
 -- what is to follow behind the options of a step
 abbrev Follows : Command → Chain → ℕ → List Placed → Step → Option Output → List Word → Type 0
 Follows told before place outputs step output rest =
-    (given : Given) (i j : ℕ) → step_of (word_of step) place given ≡ Ok (step, output) → given.output ≡ placed_at i output → scan (reading (part.Step before (word_of step)) place outputs given) j rest ≡ Ok told
+    (given : Given) (i j : ℕ) → step_of (step_command step) place given ≡ Ok (step, output) → given.output ≡ placed_at i output → scan (reading (part.Step before (step_command step)) place outputs given) j rest ≡ Ok told
 
 -- the options that spell a step with a plain output
-plain_scan : (told : Command) (before : Chain) (place : ℕ) (outputs : List Placed) (step : Step) (given : Given) (output : Option Output) (at : ℕ) (rest : List Word) → option_of (part.Step before (word_of step)) (option_word option.Output) ≡ Some option.Output → IsPlain output → names (output_names output) → ((file : Option Placed) → plain_output file ≡ Ok output → step_of (word_of step) place (record given { output = file }) ≡ Ok (step, output)) → Follows told before place outputs step output rest → scan (reading (part.Step before (word_of step)) place outputs (record given { output = None })) at (spelled (output_options output) ++ rest) ≡ Ok told
+plain_scan : (told : Command) (before : Chain) (place : ℕ) (outputs : List Placed) (step : Step) (given : Given) (output : Option Output) (at : ℕ) (rest : List Word) → option_of (part.Step before (step_command step)) (option_word option.Output) ≡ Some option.Output → IsPlain output → names (output_names output) → ((file : Option Placed) → plain_output file ≡ Ok output → step_of (step_command step) place (record given { output = file }) ≡ Ok (step, output)) → Follows told before place outputs step output rest → scan (reading (part.Step before (step_command step)) place outputs (record given { output = None })) at (spelled (output_options output) ++ rest) ≡ Ok told
 plain_scan told before place outputs step given output at rest found plain named means next =
-    output_scan told (part.Step before (word_of step)) place outputs given output at rest found named
+    output_scan told (part.Step before (step_command step)) place outputs given output at rest found named
     (λ i j. next (record given { output = placed_at i output }) i j (means (placed_at i output) (plain_told i output plain)) refl)
 
 -- the options that spell a step are read
-step_scan : (told : Command) (before : Chain) (place : ℕ) (outputs : List Placed) (step : Step) (output : Option Output) (at : ℕ) (rest : List Word) → Good (step, output) → Follows told before place outputs step output rest → scan (reading (part.Step before (word_of step)) place outputs nothing) at (spelled (step_settings step output) ++ rest) ≡ Ok told
+step_scan : (told : Command) (before : Chain) (place : ℕ) (outputs : List Placed) (step : Step) (output : Option Output) (at : ℕ) (rest : List Word) → Good (step, output) → Follows told before place outputs step output rest → scan (reading (part.Step before (step_command step)) place outputs nothing) at (spelled (step_settings step output) ++ rest) ≡ Ok told
 step_scan told before place outputs (Extract method terms) output at rest good next =
     let here : Part = part.Step before command.Extract in
     let first : Given = record nothing { method = Some method } in
@@ -204,7 +204,7 @@ steps_scan final apart [] before draft at is good few free ends outputs =
     ∙ ap (λ c. tested c (first_clash c (all_outputs draft))) e
     ∙ ap (tested final) (apart (all_outputs draft) (outputs ∙ ap written_names e))
 steps_scan final apart (step ∷ steps) before draft at is good few free ends outputs =
-    let c = word_of step.0 in
+    let c = step_command step.0 in
     let behind = spelled (step_settings step.0 step.1) ++ flat_map step_words steps in
     let room : leb 64 (length before.steps + 1) ≡ false = lt-leb 64 (length before.steps + 1) (omega (arith, few)) in
     let starts : begun (all_outputs draft) (word.Step c) at before ≡ Ok (begins draft c at before) = rw room refl in

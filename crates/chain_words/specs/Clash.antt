@@ -1,12 +1,10 @@
 -- Names of outputs that are taken: by a file that is read, or by an earlier output. (Own.)
-use Rattle.std.specs.Prelude.{◌≡◌, ℕ, List, [], ◌∷◌, ◌++◌, Bool, Option, Some, None, if◌then◌else◌}
+use Rattle.std.specs.Prelude.{ℕ, List, [], ◌∷◌, ◌++◌, Bool, Option, Some, None, if◌then◌else◌}
 use Rattle.std.specs.List.{list_any}
 use Rattle.chain_words.specs.Word.{Name, same}
 use Rattle.chain_words.specs.Fault.{Bad}
 use Rattle.chain_words.specs.Command.{is_one_of, read_names}
 use Rattle.chain_words.specs.declared.fault.WordKind.{WordKind}
-use Rattle.chain_words.specs.declared.fault.WordFault.{WordFault}
-use Rattle.chain_words.specs.declared.fault.WordFault.TheVariants.{BadWord, NoMemory}
 use Rattle.chain_words.specs.declared.fault.WordKind.TheVariants.{OutputIsInput, OutputTwice}
 use Rattle.chain_words.specs.declared.given.Placed.{Placed}
 use Rattle.chain_words.specs.declared.command.Chain.{Chain}
@@ -34,9 +32,3 @@ clash_from chain earlier (file ∷ rest) = or_later (clash chain earlier file) f
 -- the first of the outputs of a chain whose name is taken
 abbrev pub first_clash : Chain → List Placed → Option Bad
 first_clash chain outputs = clash_from chain [] outputs
-
--- an answer is this bad word, or there is none
-abbrev pub Tells : Option Bad → Option WordFault → Type 0
-Tells reading None = reading ≡ None
-Tells reading (Some (BadWord index kind)) = reading ≡ Some (record { index = index; kind = kind })
-Tells reading (Some NoMemory) = ⊥

@@ -69,13 +69,13 @@ next_command command.Generate steps = Err NotHere
 next_command (command.Step step) steps = if nat_le most_commands (steps + 1) then Err TooMany else Ok step
 
 -- a step begins behind a chain
-abbrev pub begun_by : List Placed → Result StepWord WordKind → ℕ → Chain → Reading Draft
-begun_by outputs (Ok command) at chain = Ok (record { part = Step chain command; at = at; given = nothing; outputs = outputs; asked = None })
-begun_by outputs (Err kind) at chain = bad at kind
+abbrev pub step_begun : List Placed → Result StepWord WordKind → ℕ → Chain → Reading Draft
+step_begun outputs (Ok command) at chain = Ok (record { part = Step chain command; at = at; given = nothing; outputs = outputs; asked = None })
+step_begun outputs (Err kind) at chain = bad at kind
 
 -- a step of this command begins, behind the steps of a chain
 abbrev pub begun : List Placed → CommandWord → ℕ → Chain → Reading Draft
-begun outputs command at chain = begun_by outputs (next_command command (length chain.steps)) at chain
+begun outputs command at chain = step_begun outputs (next_command command (length chain.steps)) at chain
 
 -- the outputs of all steps so far
 abbrev pub all_outputs : Draft → List Placed

@@ -26,8 +26,3 @@ then_read (Err fault) next = Err fault
 abbrev pub IsBadWord : {A : Type 0} → Reading A → WordFault → Type 0
 IsBadWord reading (BadWord index kind) = reading ≡ bad index kind
 IsBadWord reading NoMemory = Unit {0}
-
--- an answer is what is read, or memory ran out
-abbrev pub Answers : {A : Type 0} → Reading A → Result A WordFault → Type 0
-Answers reading (Ok value) = reading ≡ Ok value
-Answers reading (Err fault) = IsBadWord reading fault

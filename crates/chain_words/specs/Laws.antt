@@ -74,12 +74,12 @@ pub record IsWhole (chain : Chain) : Type 0 where
   pub written : list_all is_name (written_names chain) ≡ true
 
 -- the command of a later step
-abbrev pub word_of : Step → StepWord
-word_of (Extract method terms) = command.Extract
-word_of Reason = command.Reason
-word_of Relax = command.Relax
-word_of (Reduce keep) = command.Reduce
-word_of Convert = command.Convert
+abbrev pub step_command : Step → StepWord
+step_command (Extract method terms) = command.Extract
+step_command Reason = command.Reason
+step_command Relax = command.Relax
+step_command (Reduce keep) = command.Reduce
+step_command Convert = command.Convert
 
 -- the options that spell an output: its name
 abbrev pub output_options : Option Output → List (OptionWord × Word)
@@ -120,7 +120,7 @@ step_settings Convert output = converted_options output
 
 -- the words that spell a later step with its output
 abbrev pub step_words : Step × Option Output → List Word
-step_words step = step_word (word_of step.0) ∷ spelled (step_settings step.0 step.1)
+step_words step = step_word (step_command step.0) ∷ spelled (step_settings step.0 step.1)
 
 -- the options that spell these names
 abbrev pub name_options : OptionWord → List Name → List (OptionWord × Word)

@@ -10,3 +10,4 @@ pub mod Clash
 pub mod Draft
 pub mod Read
 pub mod Laws
+pub mod inner

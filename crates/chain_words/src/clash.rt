@@ -1,7 +1,8 @@
 //! Names of outputs that are taken.
 ghost use Rattle.std.specs.Prelude.{◌≡◌};
 ghost use Rattle.std.specs.List.{list_any};
-ghost use Rattle.chain_words.specs.Clash.{clash, first_clash, is_placed, Tells};
+ghost use Rattle.chain_words.specs.Clash.{clash, first_clash, is_placed};
+ghost use Rattle.chain_words.specs.inner.Answers.{Tells};
 ghost use Rattle.chain_words.specs.Command.{is_one_of, read_names, reads_of};
 ghost use Rattle.chain_words.specs.Given.{option_list};
 

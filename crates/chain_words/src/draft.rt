@@ -3,7 +3,8 @@
 ghost use Rattle.std.specs.Prelude.{◌≡◌, Ok, IfOk, IfErr, None};
 ghost use Rattle.chain_words.specs.Clash.{first_clash};
 ghost use Rattle.chain_words.specs.Draft.{at_command, at_end, at_option, at_place, at_value, at_word, begun, ended, next_command, option_of, tested, turn, with_given};
-ghost use Rattle.chain_words.specs.Fault.{Answers, IsBadWord};
+ghost use Rattle.chain_words.specs.Fault.{IsBadWord};
+ghost use Rattle.chain_words.specs.inner.Answers.{Answers};
 ghost use Rattle.chain_words.specs.Given.{with_setting};
 ghost use Rattle.chain_words.specs.Table.{command_of};
 ghost use Rattle.chain_words.specs.declared.draft.Draft.{Draft};

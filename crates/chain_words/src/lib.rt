@@ -20,7 +20,7 @@ mod word;
 pub use command::{Chain, Command, Format, Method, Output, Step};
 pub use fault::{WordFault, WordKind};
 pub use laws::{
-    chains_are_whole, formats_follow_names, merge_is_first, options_change_places,
+    chains_are_well_formed, formats_follow_names, merge_is_first, options_change_places,
     outputs_stand_apart, sizes_are_bounded, well_formed_chains_have_words,
 };
 pub use read::read_words;

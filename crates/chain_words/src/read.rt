@@ -1,6 +1,7 @@
 //! The words of a run of the program.
 ghost use Rattle.std.specs.Prelude.{◌≡◌, ◌≤◌, map, length, string_bytes, List, drop, IfOk, IfErr};
-ghost use Rattle.chain_words.specs.Fault.{Answers, IsBadWord};
+ghost use Rattle.chain_words.specs.Fault.{IsBadWord};
+ghost use Rattle.chain_words.specs.inner.Answers.{Answers};
 ghost use Rattle.chain_words.specs.Read.{all_words, at_merge, begun_by, chain, generated, only_size, scan};
 
 use crate::draft::{Draft, Part, at_end, turn};

@@ -1,6 +1,6 @@
 //! What a step means where it ends: what it needs, and its output.
 ghost use Rattle.std.specs.Prelude.{◌≡◌, ◌++◌, ◌∷◌, [], IfOk};
-ghost use Rattle.chain_words.specs.Fault.{Answers};
+ghost use Rattle.chain_words.specs.inner.Answers.{Answers};
 ghost use Rattle.chain_words.specs.Step.{converted, extracted, followed, format_of_name, merged, output_to, plain_output, step_of, with_plain_output};
 
 use crate::fault::bad;

@@ -1,8 +1,0 @@
-use Rattle.std.proofs.Common.{map}
-use Rattle.std.specs.String.{string_bytes}
-use Rattle.chain_words.specs.declared.command.Command.TheVariants.{Run}
-use Rattle.chain_words.proofs.Sound.{accepted}
-use Rattle.chain_words.proofs.laws.chains_are_whole.Goals as goal
-
-pub returns : goal.returns
-returns c = (accepted (map string_bytes c.args.words.now.items) (Run c.args.accepted.now) c.requires).whole
