@@ -28,8 +28,8 @@ pub fn missing(alloc: Global, ontology: &Ontology) -> Result<IndexSet<Body>, NoM
 
 /// Takes out what an axiom says, with whatever annotations it says it.
 #[tactic(auto, using(crate::proofs::Lists::left_without))]
-fn take_out(bodies: &mut IndexSet<Body>, axiom: &Axiom)
-    ensures { (b : Body) → contains same_body bodies.new b ≡ (contains same_body bodies.old b && not (same_body axiom.now.body b)) }
+fn take_out(bodies: &mut IndexSet<Body>, one: &Axiom)
+    ensures { (b : Body) → contains same_body bodies.new b ≡ (contains same_body bodies.old b && not (same_body one.now.body b)) }
 {
-    bodies.swap_remove(&axiom.body);
+    bodies.swap_remove(&one.body);
 }
