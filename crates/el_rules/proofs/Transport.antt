@@ -8,7 +8,7 @@ use Rattle.owl_axioms.specs.declared.body.Body.{Body}
 use Rattle.owl_axioms.specs.declared.body.Body.TheVariants as body
 use Rattle.owl_axioms.specs.declared.expr.ClassExpr.{ClassExpr}
 use Rattle.owl_axioms.specs.declared.expr.ClassExpr.TheVariants as expr
-use Rattle.el_numbers.proofs.LoopLemmas.{within}
+use Rattle.el_numbers.proofs.LoopLemmas.{upper_within, within}
 use Rattle.el_numbers.specs.Rules as numbers
 use Rattle.el_numbers.specs.declared.fact.Fact.{Fact}
 use Rattle.el_numbers.specs.declared.fact.Fact.TheVariants.{Below, Link}
@@ -183,6 +183,53 @@ module _ (view : ElView) (part : NumberedPart) (n : Numbering) (is : IsNumbered 
 
   pub over : {g : Fact} → numbers.Derived part g → Derived view (fact_at n g)
   over (numbers.step rule premises) = rule_over rule (low (numbers.step rule premises)) (λ p k. over (premises p k))
+
+  -- ---- the numbers of a derived fact
+
+  abbrev HasRole : Fact → Type 0
+  HasRole (Below c d) = Unit {0}
+  HasRole (Link c r d) = r < length n.roles
+
+  as_role : (r : ℕ) → r < part.role_count → r < length n.roles
+  as_role r l = let e = is.roles in omega (arith, l, e)
+
+  has_role : {g : Fact} → numbers.Derived part g → HasRole g
+  has_role (numbers.step (numbers.itself l) h) = tt
+  has_role (numbers.step (numbers.in_thing l) h) = tt
+  has_role (numbers.step (numbers.to_operand k) h) = tt
+  has_role (numbers.step (numbers.to_and k) h) = tt
+  has_role (numbers.step (numbers.by_inclusion k) h) = tt
+  has_role (numbers.step (numbers.by_disjoint k) h) = tt
+  has_role (numbers.step (numbers.to_link {c} {s} {r} {d} k) h) = (is.is_some s r d k).0
+  has_role (numbers.step (numbers.by_role {c} {r} {d} {s} k) h) = as_role s (is.proper.role_inclusions r s k).1
+  has_role (numbers.step (numbers.by_chain {c} {r} {d} {s} {e} {t} k) h) = as_role t (is.proper.chains r s t k).2
+  has_role (numbers.step (numbers.from_link k) h) = tt
+  has_role (numbers.step (numbers.by_domain k) h) = tt
+  has_role (numbers.step numbers.to_nothing h) = tt
+
+  as_expr : (k : ℕ) → k < length part.shapes.items → k < length n.exprs
+  as_expr k l = let e = is.shapes in omega (arith, l, e)
+
+  pub range : (g : Fact) → numbers.Derived part g → IsFact n g
+  range (Below c d) h = (as_expr c (within part is.proper h), as_expr d (upper_within part is.proper h))
+  range (Link c r d) h = let w = within part is.proper h in (as_expr c w.0, has_role h, as_expr d w.1)
+
+  -- different facts stand for different facts
+  pub apart : (g h : Fact) → IsFact n g → IsFact n h → fact_at n g ≡ fact_at n h → g ≡ h
+  apart (Below c d) (Below x y) r s e =
+      let low : expr_at n c ≡ expr_at n x = cc in
+      let high : expr_at n d ≡ expr_at n y = cc in
+      let p = is.once c x (expr_at n x) (stands c r.0 ∙ ap Some low) (stands x s.0) in
+      let q = is.once d y (expr_at n y) (stands d r.1 ∙ ap Some high) (stands y s.1) in λ i. Below (p i) (q i)
+  apart (Below c d) (Link x k y) r s e = absurd cc
+  apart (Link c k d) (Below x y) r s e = absurd cc
+  apart (Link c k d) (Link x j y) r s e =
+      let low : expr_at n c ≡ expr_at n x = cc in
+      let role : role_at n k ≡ role_at n j = cc in
+      let high : expr_at n d ≡ expr_at n y = cc in
+      let p = is.once c x (expr_at n x) (stands c r.0 ∙ ap Some low) (stands x s.0) in
+      let o = is.roles_once k j (role_at n j) (stands_role k r.1 ∙ ap Some role) (stands_role j s.1) in
+      let q = is.once d y (expr_at n y) (stands d r.2 ∙ ap Some high) (stands y s.2) in λ i. Link (p i) (o i) (q i)
 
   -- ---- from expressions to numbers
 
@@ -464,7 +511,7 @@ module _ (view : ElView) (part : NumberedPart) (n : Numbering) (is : IsNumbered 
   rule_at (by_domain {c} {d} {e} {r} i) h = domain_to c d e r i (h (HasLink c r d) here)
   rule_at (to_nothing {c} {d} {r}) h = nothing_to c d r (h (HasLink c r d) here) (h (IsBelow d expr.Nothing) (there here))
 
-  found_at : {fact : ElFact} → Derived view fact → At fact
+  pub found_at : {fact : ElFact} → Derived view fact → At fact
   found_at (step rule premises) = rule_at rule (λ p k. found_at (premises p k))
 
   -- ---- both laws
