@@ -73,7 +73,7 @@ fn one(alloc: Global, frame: FrameKind, id: &Bytes, clause: Clause) -> Result<Ve
 }
 
 /// The kind of the frame of an entity.
-fn frame_kind(kind: Kind) -> FrameKind
+pub fn frame_kind(kind: Kind) -> FrameKind
     ensures { result ≡ spec.frame_kind kind }
 {
     match kind {

@@ -7,7 +7,7 @@ mod declared;
 mod home;
 mod ontology;
 
-pub use clauses::clauses_of;
+pub use clauses::{clauses_of, frame_kind};
 pub use declared::Declared;
 pub use home::{Home, home_of};
 pub use ontology::{Spelling, spelled};
