@@ -38,7 +38,7 @@ use Rattle.obo_statements.specs.Groups.{group_spelling}
 use Rattle.obo_mapping.specs.Documents.{group_in, group_of, group_said, group_with, has_tag, header_with, is_header, is_raw, is_term, is_untranslatable, kept, names_in, norm, owl, situation_of, spelled}
 use Rattle.obo_normal_form.specs.NormLaws.{NormIsSound}
 use Rattle.obo_mapping.specs.Sound.{IsFramed, IsSound}
-use Rattle.obo_statements.specs.Classes.{class_named}
+use Rattle.owl_axioms.specs.Classes.{class_named}
 use Rattle.obo_statements.specs.Groups.{Group, expr_pair, group_expr, group_meaning, group_tag, intersection, operand_plainly, union}
 use Rattle.obo_statements.proofs.PlainMeaning.{grouped_plainly}
 use Rattle.obo_mapping.proofs.DocumentLaw as law

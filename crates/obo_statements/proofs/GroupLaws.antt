@@ -43,7 +43,8 @@ use Rattle.rel_io.proofs.Texts.{word_from_readable}
 use Rattle.text_sets.proofs.PartLemmas.{each_some-items, each_some-parts, each_some-some, option_and_then_some, option_map_some, option_or_some}
 use Rattle.text_sets.proofs.SortedLemmas.{by_text_total, sorted_by-each, sorted_by-is, sorted_by-only}
 use Rattle.obo_notes.specs.Context.{Agree, Reading, Writing}
-use Rattle.obo_statements.specs.Classes.{as_id, class_id, class_named, class_read, is_class}
+use Rattle.owl_axioms.specs.Classes.{class_named}
+use Rattle.obo_statements.specs.Classes.{as_id, class_id, class_read, is_class}
 use Rattle.obo_statements.specs.Restrictions.{restriction_words}
 use Rattle.obo_statements.specs.Groups.{Group, clauses_with, expr_pair, group_clauses, group_expr, group_in_body, group_operands, group_tag, intersection, operand_plainly, operand_value, operands_in, other_expr, union}
 use Rattle.obo_statements.proofs.PlainMeaning.{plain_group}

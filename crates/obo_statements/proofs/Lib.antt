@@ -1,6 +1,8 @@
 pub mod GroupClauses
 pub mod GroupLaws
 pub mod GroupsBack
+pub mod MeaningLoops
+pub mod MeaningTexts
 pub mod PlainMeaning
 pub mod PrintedLists
 pub mod Rising

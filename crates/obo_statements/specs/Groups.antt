@@ -22,7 +22,8 @@ use Rattle.text_sets.specs.Parts.{each_some}
 use Rattle.text_sets.specs.Sorted.{sorted_by}
 use Rattle.obo_notes.specs.Context.{Reading, Writing, where_true}
 use Rattle.obo_notes.specs.Notes.{qualifiers_of, sorted_sides}
-use Rattle.obo_statements.specs.Classes.{as_id, class_id, class_named, class_read, is_class}
+use Rattle.owl_axioms.specs.Classes.{class_named}
+use Rattle.obo_statements.specs.Classes.{as_id, class_id, class_read, is_class}
 use Rattle.obo_statements.specs.declared.group.Group as program
 use Rattle.obo_statements.specs.declared.group.Group.TheVariants as groups
 use Rattle.obo_statements.specs.Restrictions.{restriction, restriction_words}

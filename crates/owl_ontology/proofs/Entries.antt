@@ -1,5 +1,6 @@
 -- Tables from axioms to origins, seen as lists of entries.
-use Rattle.std.proofs.Common.{◌≡◌, ℕ, ◌<◌, ◌↔◌, Bool, true, false, cond, not, ◌&&◌, List, [], ◌∷◌, zero, suc, Some, None, Contains, IsTrue, slice_get, take, is_some, refl, sym, ap, subst, ◌∙◌, true≢false, arith, if◌then◌else◌}
+use Rattle.std.proofs.Common.{◌≡◌, ◌==◌, ◌+◌, ℕ, ◌<◌, ◌↔◌, Bool, true, false, cond, not, ◌&&◌, List, [], ◌∷◌, zero, suc, Some, None, Contains, IsTrue, slice_get, take, is_some, refl, sym, ap, subst, ◌∙◌, true≢false, arith, if◌then◌else◌}
+use Rattle.std.proofs.lemmas.Bool.Decides.{nat_tests}
 use Rattle.std.proofs.lemmas.List.Elements.{Contains-get_or, Contains-append_right}
 use Rattle.std.proofs.lemmas.Map.Keys.{IsDistinct-head, IsDistinct-tail}
 use Rattle.std.proofs.lemmas.Option.{slice_get-map}
@@ -119,3 +120,8 @@ is_new pairs a answer is = (
     | false ↦ λ e. absurd (absent (IsHeld-lookup pairs a (is ∙ ap not e)))
   ] refl,
 )
+
+-- a table that grew by one exactly where the key was new tells that by its length
+pub grown : (held : Bool) (before after : ℕ) → after ≡ before + (if held then 0 else 1) → held ≡ not (not (after == before))
+grown true before after is = grind (arith, nat_tests, is)
+grown false before after is = grind (arith, nat_tests, is)

@@ -1,3 +1,4 @@
 pub mod Laws
 pub mod Ontology
 pub mod Origins
+pub mod Same

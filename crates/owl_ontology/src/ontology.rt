@@ -1,10 +1,10 @@
 //! `Ontology`: a name and a list of proper axioms without repeats, each with its least origin.
-ghost use Rattle.std.specs.Prelude.{◌≡◌, ◌<◌, ◌↔◌, [], Some, IsTrue, IfOk, OnOk, OnErr, drop, length, slice_get};
+ghost use Rattle.std.specs.Prelude.{◌≡◌, ◌+◌, ◌++◌, IsSome, IfSome, ◌<◌, ◌↔◌, if◌then◌else◌, is_some, [], Some, IsTrue, IfOk, OnOk, OnErr, drop, length, slice_get};
 ghost use Rattle.std.specs.Option.{option_copied, option_map_or};
 ghost use Rattle.std.specs.Map.{lookup};
-ghost use Rattle.indexmap.specs.IndexMap.{IsUnchanged, IsUnique, insert_entry};
+ghost use Rattle.indexmap.specs.IndexMap.{IsUnchanged, IsUnique, index_map_len, insert_entry};
 ghost use Rattle.owl_axioms.specs.Same.{same_axiom};
-ghost use Rattle.owl_ontology.specs.Ontology.{AreDifferent, IsHeld, add_entry, axioms_of, first_flag, flagged, origins_of};
+ghost use Rattle.owl_ontology.specs.Ontology.{AreDifferent, IsHeld, add_entry, axioms_of, first_flag, flagged, origins_of, taken_out};
 ghost use Rattle.owl_ontology.specs.Origins.{lesser};
 ghost use Rattle.owl_axioms.specs.Proper.{AreProper, IsProper};
 
@@ -59,9 +59,9 @@ impl Ontology {
         ensures is_new { IfOk result (λ is_new. IsTrue is_new ↔ ¬ IsHeld «axiom» self.old.entries) }
         ensures unchanged { OnErr result (self.new ≡ self.old) }
     {
-        let least = least_origin(self.axioms.get(&axiom).copied(), origin);
-        let held = put(&mut self.axioms, axiom, least)?;
-        Ok(held.is_none())
+        let count = self.axioms.len();
+        put_least(&mut self.axioms, axiom, origin)?;
+        Ok(self.axioms.len() != count)
     }
 
     /// The name, if it has one.
@@ -124,6 +124,16 @@ impl Ontology {
     {
         self.axioms[at]
     }
+
+    /// Takes the last axiom out, with its origin. It takes no memory.
+    pub fn pop(&mut self) -> Option<(Axiom, Origin)>
+        ensures entries { self.old.entries ≡ self.new.entries ++ taken_out result }
+        ensures found { IsSome result ↔ (0 < length self.old.entries) }
+        ensures name { self.new.name ≡ self.old.name }
+        ensures proper { IfSome result (λ taken. IsProper taken.0) }
+    {
+        self.axioms.pop()
+    }
 }
 
 impl Dup for Ontology {
@@ -165,12 +175,27 @@ fn put(
     Ok(axioms.insert(axiom, origin)?)
 }
 
-/// The lesser of the origin that an axiom has, if any, and another one.
-fn least_origin(held: Option<Origin>, origin: Origin) -> Origin
-    ensures { result ≡ option_map_or (lesser origin) held origin }
+/// Puts an axiom into a table with the lesser of the origin that it had there, if any, and another one. It is looked up
+/// once.
+fn put_least(
+    axioms: &mut IndexMap<Axiom, Origin>,
+    axiom: Axiom,
+    origin: Origin,
+) -> Result<(), NoMemory>
+    ensures entries { OnOk result (axioms.new.entries ≡ insert_entry same_axiom axioms.old.entries «axiom»
+        (option_map_or (lesser origin) (lookup (same_axiom «axiom») axioms.old.entries) origin)) }
+    ensures len { OnOk result (index_map_len axioms.new ≡ index_map_len axioms.old + (if is_some (lookup (same_axiom «axiom») axioms.old.entries) then 0 else 1)) }
+    ensures err { OnErr result (IsUnchanged axioms.old axioms.new) }
+    ensures unique { IsUnique same_axiom axioms.new }
 {
-    match held {
-        Some(held) => { if held < origin { held } else { origin } }
-        None => origin,
-    }
+    let held = axioms.entry(axiom)?.or_insert(origin);
+    *held = least_of(*held, origin);
+    Ok(())
+}
+
+/// The lesser of two origins.
+fn least_of(held: Origin, origin: Origin) -> Origin
+    ensures { result ≡ lesser origin held }
+{
+    if held < origin { held } else { origin }
 }

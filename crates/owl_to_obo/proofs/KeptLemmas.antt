@@ -37,7 +37,7 @@ use Rattle.obo_frames.specs.Soundness.{GivesId, HasIdClause, IsBare, IsKept}
 use Rattle.obo_frames.specs.declared.placed.Placed.{Placed}
 use Rattle.obo_notes.specs.Context.{reading_in, where_true}
 use Rattle.obo_notes.proofs.Guards.{same_bytes}
-use Rattle.obo_statements.specs.Classes.{class_named}
+use Rattle.owl_axioms.specs.Classes.{class_named}
 use Rattle.obo_statements.specs.Groups.{Group, group_tag, intersection, operand_plainly, union}
 use Rattle.obo_statements.specs.Restrictions.{restriction}
 use Rattle.obo_mapping.specs.Documents.{group_in, group_of, has_tag, is_header, is_raw, is_term, name_of, names_in, situation_of, space_of, word_in}

@@ -61,7 +61,8 @@ use Rattle.obo_notes.specs.Notes.{qualifiers_of}
 use Rattle.obo_notes.proofs.ContextLemmas.{Agree-in}
 use Rattle.obo_notes.proofs.Guards.{same_bytes, where_true_some}
 use Rattle.obo_statements.specs.Anchors.{anchors, class_anchor, class_entity}
-use Rattle.obo_statements.specs.Classes.{class_named, is_class}
+use Rattle.owl_axioms.specs.Classes.{class_named}
+use Rattle.obo_statements.specs.Classes.{is_class}
 use Rattle.obo_statements.specs.Groups.{clauses_with, group_clauses, group_expr, group_in_body, group_meaning, group_operands, operand_value, other_expr}
 use Rattle.obo_statements.specs.Statements.{statement_spelling}
 use Rattle.obo_statements.proofs.GroupLaws.{whole_of}

@@ -9,7 +9,7 @@ use Rattle.release_chain.specs.Ending.{Ends, IsNoChain}
 use Rattle.release_chain.specs.Fault.{is_refusal}
 use Rattle.release_chain.specs.Release.{Complete, EndsAs, OfRun, Refused}
 use Rattle.release_chain.specs.Run.{Run, run, run_chain}
-use Rattle.release_chain.specs.Words.{Word, chain}
+use Rattle.release_chain.specs.Words.{Word}
 use Rattle.release_chain.specs.declared.fault.Fault.{Fault}
 use Rattle.release_chain.specs.declared.fault.Fault.TheVariants as fault
 use Rattle.release_chain.specs.declared.fault.WordKind.{WordKind}

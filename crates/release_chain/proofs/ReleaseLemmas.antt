@@ -12,7 +12,7 @@ use Rattle.obo_frames.specs.Answer.{document_of}
 use Rattle.obo_frames.specs.declared.fault.DocFault.{DocFault}
 use Rattle.obo_frames.specs.declared.placed.Placed.{Placed}
 use Rattle.term_frames.specs.Built.{unbuilt_line}
-use Rattle.term_frames.specs.Laws.{SaysTheSame}
+use Rattle.owl_ontology.specs.Same.{SaysTheSame}
 use Rattle.term_frames.specs.Lines.{lines_of}
 use Rattle.release_chain.specs.Ending.{Ends}
 use Rattle.term_frames.specs.Mapping.{ontology_of}
@@ -24,7 +24,7 @@ use Rattle.release_chain.specs.declared.fault.Fault.{Fault}
 use Rattle.release_chain.specs.declared.fault.Fault.TheVariants.{TooManyBytes}
 use Rattle.release_chain.specs.declared.words.Paths.{Paths}
 use Rattle.release_chain.specs.declared.words.WrongWord.{WrongWord}
-use Rattle.term_frames.proofs.EntryLemmas.{first_or_later, none_in_nothing}
+use Rattle.owl_ontology.proofs.Held.{first_or_later, none_in_nothing}
 use Rattle.term_frames.proofs.TextLaws.{text_reads_back}
 
 -- a run writes at most one file, the text of its merged ontology

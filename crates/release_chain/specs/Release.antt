@@ -11,7 +11,7 @@ use Rattle.rel_io.specs.FolderState.{Files, FolderState}
 use Rattle.rel_io.specs.Sink.{SinkState}
 use Rattle.release_chain.specs.Fault.{is_refusal}
 use Rattle.release_chain.specs.Run.{Opening, Output, Run, after_outputs, run}
-use Rattle.term_frames.specs.Laws.{SaysTheSame}
+use Rattle.owl_ontology.specs.Same.{SaysTheSame}
 use Rattle.term_frames.specs.Lines.{lines_of}
 use Rattle.term_frames.specs.Mapping.{ontology_of}
 use Rattle.term_frames.specs.Text.{obo_text}

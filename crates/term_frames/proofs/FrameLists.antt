@@ -9,7 +9,7 @@ use Rattle.term_frames.specs.Clauses.{clause}
 use Rattle.term_frames.specs.Forms.{is_name}
 use Rattle.term_frames.specs.declared.clause.Clause.{Clause}
 use Rattle.term_frames.specs.declared.clause.Tag.TheVariants.{Id, IsA, Name}
-use Rattle.term_frames.proofs.EntryLemmas.{first_or_later, is_first, is_later, none_in_nothing}
+use Rattle.owl_ontology.proofs.Held.{first_or_later, is_first, is_later, none_in_nothing}
 
 -- behind frames with these ids, in the frame with this one, which has a name or not
 pub data Frames : List (List ℕ) → List ℕ → Bool → List Clause → Type 0 where

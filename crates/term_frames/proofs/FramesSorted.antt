@@ -16,7 +16,7 @@ use Rattle.term_frames.specs.Text.{clause_order, rank}
 use Rattle.term_frames.specs.declared.clause.Clause.{Clause}
 use Rattle.term_frames.specs.declared.clause.Tag.{Tag}
 use Rattle.term_frames.specs.declared.clause.Tag.TheVariants.{Id, IsA, Name}
-use Rattle.term_frames.proofs.EntryLemmas.{first_or_later, is_first, is_later, none_in_nothing}
+use Rattle.owl_ontology.proofs.Held.{first_or_later, is_first, is_later, none_in_nothing}
 use Rattle.term_frames.proofs.FrameLists.{AllFacts, Frames, IsPlaced, frame_facts, frames_placed, id_first, name_first, no_more, parent_first}
 use Rattle.term_frames.proofs.OrderLemmas.{AreSorted, IsBefore, SameMembers, is_before, not_before_itself, not_both_before}
 

@@ -9,10 +9,11 @@ use Rattle.term_frames.specs.Built.{any_has, begins_frame, first_unbuilt, is_bui
 use Rattle.term_frames.specs.Clauses.{clause, clauses_of_file, first_named, header_of, ontology_name, placed_at, placed_from}
 use Rattle.term_frames.specs.Forms.{id_in, is_format_version, is_frame_line, is_printable, ontology_in}
 use Rattle.term_frames.specs.Lines.{Line}
-use Rattle.term_frames.specs.Mapping.{add_all, axiom_of, entry_of_clause}
+use Rattle.owl_ontology.specs.Ontology.{add_entries}
+use Rattle.term_frames.specs.Mapping.{axiom_of, entry_of_clause}
 use Rattle.term_frames.specs.Progress.{Read, ReadHeader, is_header_line}
 use Rattle.term_frames.specs.declared.clause.Tag.TheVariants.{Id}
-use Rattle.term_frames.proofs.EntryLemmas.{none_in_nothing}
+use Rattle.owl_ontology.proofs.Held.{none_in_nothing}
 use Rattle.term_frames.proofs.FormLemmas.{SaysNothing, header_says_nothing}
 use Rattle.term_frames.proofs.ReaderLemmas.{first_unbuilt-built, first_unbuilt-unbuilt}
 
@@ -89,7 +90,7 @@ header_ends_at_frame lines name number line later read is_frame = ended lines na
 pub header_read : (space : List ℕ) (lines : List Line) (name : Option (List ℕ)) (number : ℕ) (rest : List Line) (read : ReadHeader lines name number rest) → Read space lines read.earlier [] [] number rest
 header_read space lines name number rest read = record {
   unbuilt = read.unbuilt;
-  clauses = ap (λ placed. add_all [] (map (entry_of_clause space) placed)) read.clauses;
+  clauses = ap (λ placed. add_entries [] (map (entry_of_clause space) placed)) read.clauses;
   taken = λ id canonical. (
     (λ is. let none : false ≡ true = (λ i. list_any (bytes_eq id) ((sym read.no_ids) i)) ∙ is in absurd (false≢true none)),
     (λ here. absurd (none_in_nothing (axiom_of space (clause id Id [])) here)),

@@ -1,4 +1,3 @@
-pub mod EntryLemmas
 pub mod FormLemmas
 pub mod FrameLists
 pub mod FramesRead

@@ -21,7 +21,7 @@ use Rattle.term_frames.specs.Text.{clause_order, rank, with_all}
 use Rattle.term_frames.specs.declared.clause.Clause.{Clause}
 use Rattle.term_frames.specs.declared.clause.Tag.{Tag}
 use Rattle.term_frames.specs.declared.clause.Tag.TheVariants.{Id, IsA, Name}
-use Rattle.term_frames.proofs.EntryLemmas.{first_or_later, is_first, is_later, none_in_nothing}
+use Rattle.owl_ontology.proofs.Held.{first_or_later, is_first, is_later, none_in_nothing}
 
 -- ---- the order
 

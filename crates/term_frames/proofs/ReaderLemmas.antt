@@ -9,7 +9,7 @@ use Rattle.std.proofs.lemmas.Bool.Decides.{nat_tests}
 use Rattle.std.proofs.lemmas.Slice.Eq.{bytes_eq-Decides}
 use Rattle.iri_map.specs.Id.{iri_of, is_canonical_id}
 use Rattle.iri_map.proofs.CandidateLemmas.{bytes_eq-refl}
-use Rattle.owl_ontology.specs.Ontology.{Entry, IsHeld, add_entry}
+use Rattle.owl_ontology.specs.Ontology.{Entry, IsHeld, add_entries, add_entry}
 use Rattle.owl_axioms.specs.declared.body.Axiom.{Axiom}
 use Rattle.owl_axioms.specs.declared.body.Body.TheVariants.{Declaration, Note, Sub}
 use Rattle.owl_axioms.specs.Vocabulary.{rdfs_label}
@@ -20,11 +20,11 @@ use Rattle.term_frames.specs.Built.{any_has, begins_frame, first_unbuilt, is_bui
 use Rattle.term_frames.specs.Clauses.{clause, clause_in, frame_at, placed_at, placed_from}
 use Rattle.term_frames.specs.Forms.{id_in, is_frame_line, is_printable, name_in, parent_in, value_behind}
 use Rattle.term_frames.specs.Lines.{Line, lines_of}
-use Rattle.term_frames.specs.Mapping.{add_all, axiom_of, class_named, entry_of_clause}
+use Rattle.term_frames.specs.Mapping.{axiom_of, class_named, entry_of_clause}
 use Rattle.term_frames.specs.Progress.{Read, ReadInFrame, TakenIsDeclared, with_clauses}
 use Rattle.term_frames.specs.declared.clause.Clause.{Clause}
 use Rattle.term_frames.specs.declared.clause.Tag.TheVariants.{Id, IsA, Name}
-use Rattle.term_frames.proofs.EntryLemmas.{added_is_held, held_or_added, held_stays}
+use Rattle.owl_ontology.proofs.Held.{added_is_held, held_or_added, held_stays}
 use Rattle.term_frames.proofs.FormLemmas.{SaysNothing, empty_says_nothing, frame_line-is, frame_line_says_nothing, id_line_is_printable, no_id-name, no_id-parent, no_name-parent, parent_line, value_behind-is}
 use Rattle.term_frames.proofs.MappingLemmas.{same_id}
 
@@ -52,12 +52,12 @@ first_unbuilt-unbuilt earlier number line later not_built = ap (λ b. cond b (fi
 
 nothing_more : (space : List ℕ) (held : List Entry) (frame : List ℕ) (number : ℕ) (line : Line) (later : List Line) → SaysNothing line → with_clauses space held frame number (line ∷ later) ≡ with_clauses space held frame (number + 1) later
 nothing_more space held frame number line later says =
-    λ i. add_all held (map (entry_of_clause space) (placed_at number (says.clause frame i) ++ placed_from (unwrap_or (says.no_id i) frame) (number + 1) later))
+    λ i. add_entries held (map (entry_of_clause space) (placed_at number (says.clause frame i) ++ placed_from (unwrap_or (says.no_id i) frame) (number + 1) later))
 
 clause_more : (space : List ℕ) (held : List Entry) (frame next : List ℕ) (number : ℕ) (line : Line) (later : List Line) (one : Clause) → clause_in frame line ≡ Some one → frame_at frame line ≡ next
     → with_clauses space held frame number (line ∷ later) ≡ with_clauses space (add_entry (axiom_of space one) (record { file = 0; line = number }) held) next (number + 1) later
 clause_more space held frame next number line later one said goes =
-    λ i. add_all held (map (entry_of_clause space) (placed_at number (said i) ++ placed_from (goes i) (number + 1) later))
+    λ i. add_entries held (map (entry_of_clause space) (placed_at number (said i) ++ placed_from (goes i) (number + 1) later))
 
 -- the ids of earlier frames stay, where a line has none
 taken_stays : (line : Line) (earlier : List Line) (id : List ℕ) → id_in line ≡ None → is_taken (line ∷ earlier) id ≡ is_taken earlier id

@@ -17,14 +17,15 @@ use Rattle.owl_axioms.specs.declared.body.Axiom.{Axiom}
 use Rattle.term_frames.specs.Built.{first_unbuilt, is_built, unbuilt_line}
 use Rattle.term_frames.specs.Clauses.{Placed, clause, clauses_of_file, first_named, header_of, ontology_name}
 use Rattle.term_frames.specs.Forms.{id_in, is_format_version, is_frame_line, is_name_byte, is_ontology_name, is_printable, ontology_in, parent_in, value_behind}
-use Rattle.term_frames.specs.Laws.{AxiomsAreSaid, SaysTheSame, TextIsOfSet, TextReadsBack}
+use Rattle.owl_ontology.specs.Same.{SaysTheSame}
+use Rattle.term_frames.specs.Laws.{AxiomsAreSaid, TextIsOfSet, TextReadsBack}
 use Rattle.term_frames.specs.Lines.{Line, ended, lines_of, onto_first}
 use Rattle.term_frames.specs.Mapping.{axiom_of, clause_of, entry_of_clause, ontology_of}
 use Rattle.term_frames.specs.Text.{header_lines, lines_of_clause, lines_of_ontology, name_for, obo_text, only, rank, sorted_clauses}
 use Rattle.term_frames.specs.declared.clause.Clause.{Clause}
 use Rattle.term_frames.specs.declared.clause.Tag.{Tag}
 use Rattle.term_frames.specs.declared.clause.Tag.TheVariants.{Id, IsA, Name}
-use Rattle.term_frames.proofs.EntryLemmas.{all_added_is_held, all_held_or_added, first_or_later, is_first, is_later, none_in_nothing}
+use Rattle.owl_ontology.proofs.Held.{all_added_is_held, all_held_or_added, first_or_later, is_first, is_later, none_in_nothing}
 use Rattle.term_frames.proofs.FormLemmas.{value_behind-is}
 use Rattle.term_frames.proofs.FrameLists.{ClauseFacts, Frames, frame_facts, id_first, name_first, no_more, parent_first}
 use Rattle.term_frames.proofs.FramesRead.{clauses_from, frames_of_file}

@@ -2,6 +2,7 @@
 use Rattle.std.specs.Prelude.{◌≡◌, ◌↔◌, ℕ, ◌+◌, ◌<◌, List, [], ◌∷◌, ◌++◌, Bool, Contains, IsTrue, IsFalse, MatchOption, None, drop, length, reverse, slice_index_or, take}
 use Rattle.iri_map.specs.Ontology.{name_or_temp}
 use Rattle.owl_ontology.specs.Ontology.{IsHeld, OntologyState}
+use Rattle.owl_ontology.specs.Same.{SaysTheSame}
 use Rattle.owl_axioms.specs.declared.body.Axiom.{Axiom}
 use Rattle.term_frames.specs.Built.{is_built, unbuilt_line}
 use Rattle.term_frames.specs.Clauses.{Placed, clauses_of_file, ontology_name}
@@ -42,11 +43,6 @@ pub record IsSaid (lines : List Line) (a : Axiom) : Type 0 where
 -- the axioms of a file are those that its clauses say, all of them and no other
 abbrev pub AxiomsAreSaid : List ℕ → Type 0
 AxiomsAreSaid bytes = (a : Axiom) → IsHeld a (ontology_of (lines_of bytes)).entries ↔ IsSaid (lines_of bytes) a
-
--- two ontologies have one name and the same axioms, wherever these come from and in whatever order
-pub record SaysTheSame (one other : OntologyState) : Type 0 where
-  pub name : one.name ≡ other.name
-  pub axioms : (a : Axiom) → IsHeld a one.entries ↔ IsHeld a other.entries
 
 -- the text of an ontology is told by its name and the set of its axioms
 abbrev pub TextIsOfSet : OntologyState → OntologyState → Type 0

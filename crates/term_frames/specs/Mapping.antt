@@ -1,12 +1,12 @@
 -- The axioms that clauses say, and the clauses of axioms: a term is a declared class, its name an annotation
 -- rdfs:label, and `is_a` a subclass axiom. (The mapping of the OBO Flat File Format 1.4 to OWL 2, in our own profile.)
-use Rattle.std.specs.Prelude.{ℕ, if◌then◌else◌, List, [], ◌∷◌, Option, None, length, map, nat_eq}
+use Rattle.std.specs.Prelude.{ℕ, if◌then◌else◌, List, [], Option, None, length, map, nat_eq}
 use Rattle.std.specs.Option.{option_and_then, option_map}
 use Rattle.std.specs.Str.{bytes_eq}
 use Rattle.iri_map.specs.Candidate.{id_of}
 use Rattle.iri_map.specs.Id.{iri_of}
 use Rattle.iri_map.specs.Ontology.{name_or_temp}
-use Rattle.owl_ontology.specs.Ontology.{Entry, OntologyState, add_entry}
+use Rattle.owl_ontology.specs.Ontology.{Entry, OntologyState, add_entries}
 use Rattle.owl_axioms.specs.Vocabulary.{rdfs_label}
 use Rattle.owl_axioms.specs.declared.annotation.NoteValue.TheVariants.{Text}
 use Rattle.owl_axioms.specs.declared.body.Axiom.{Axiom}
@@ -44,16 +44,11 @@ abbrev pub entry_of_clause : List ℕ → Placed → Entry
 entry_of_clause space placed =
     record { «axiom» = axiom_of space placed.clause; origin = record { file = 0; line = placed.line } }
 
--- entries one after another: each axiom once, in the order in which they come, with its least origin
-abbrev pub add_all : List Entry → List Entry → List Entry
-add_all held [] = held
-add_all held (entry ∷ entries) = add_all (add_entry entry.axiom entry.origin held) entries
-
 -- the ontology of a file: its name, and the axioms of its clauses
 abbrev pub ontology_of : List Line → OntologyState
 ontology_of lines = record {
   name = ontology_name lines;
-  entries = add_all [] (map (entry_of_clause (name_or_temp (ontology_name lines))) (clauses_of_file lines));
+  entries = add_entries [] (map (entry_of_clause (name_or_temp (ontology_name lines))) (clauses_of_file lines));
 }
 
 -- the id of an entity, where it is a class

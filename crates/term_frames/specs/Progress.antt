@@ -3,17 +3,17 @@
 use Rattle.std.specs.Prelude.{◌≡◌, ◌↔◌, ℕ, ◌==◌, ◌&&◌, ◌||◌, Bool, not, true, List, [], ◌∷◌, Option, is_some, length, map}
 use Rattle.std.specs.List.{filter_map, list_all}
 use Rattle.iri_map.specs.Id.{is_canonical_id}
-use Rattle.owl_ontology.specs.Ontology.{Entry, IsHeld}
+use Rattle.owl_ontology.specs.Ontology.{Entry, IsHeld, add_entries}
 use Rattle.term_frames.specs.Built.{any_has, first_unbuilt, is_in_frame, is_taken, of_frame, unbuilt_line}
 use Rattle.term_frames.specs.Clauses.{clause, clauses_of_file, ontology_name, placed_from}
 use Rattle.term_frames.specs.Forms.{id_in, is_format_version, is_frame_line, is_printable, name_in, ontology_in}
 use Rattle.term_frames.specs.Lines.{Line}
-use Rattle.term_frames.specs.Mapping.{add_all, axiom_of, entry_of_clause}
+use Rattle.term_frames.specs.Mapping.{axiom_of, entry_of_clause}
 use Rattle.term_frames.specs.declared.clause.Tag.TheVariants.{Id}
 
 -- the entries that placed clauses add
 abbrev pub with_clauses : List ℕ → List Entry → List ℕ → ℕ → List Line → List Entry
-with_clauses space held frame number lines = add_all held (map (entry_of_clause space) (placed_from frame number lines))
+with_clauses space held frame number lines = add_entries held (map (entry_of_clause space) (placed_from frame number lines))
 
 -- an id is that of an earlier frame exactly where its class is declared
 abbrev pub TakenIsDeclared : List ℕ → List Line → List Entry → Type 0

@@ -1,0 +1,6 @@
+mod Bodies
+mod Examples
+mod Fronts
+mod Notes
+mod Sides
+mod Words

@@ -1,0 +1,5 @@
+mod After
+mod Entailed
+mod Flags
+mod Numbers
+mod Walks

@@ -1,0 +1,5 @@
+pub mod Edges
+pub mod Laws
+pub mod Reduce
+pub mod Redundant
+pub mod inner

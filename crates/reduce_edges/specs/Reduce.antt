@@ -1,0 +1,14 @@
+-- An ontology before reducing and after. (Own; the role of the command `reduce` of ROBOT.)
+use Rattle.std.specs.Prelude.{ℕ, ◌≡◌, ◌+◌, Bool, true, false, List, Some, length, slice_get}
+use Rattle.owl_ontology.specs.Ontology.{Entry, OntologyState, axioms_of, flagged}
+use Rattle.reduce_edges.specs.Redundant.{Goes}
+
+-- exactly the axioms that go by all that was there are gone, and so many; the others stay in their order, with their
+-- origins
+pub record Reduces (before after : OntologyState) (keep_annotated : Bool) (count : ℕ) : Type 0 where
+  pub stays : List Bool
+  pub long : length stays ≡ length before.entries
+  pub kept : (i : ℕ) (e : Entry) → slice_get before.entries i ≡ Some e → slice_get stays i ≡ Some true → ¬ (Goes (axioms_of before.entries) keep_annotated e.axiom)
+  pub gone : (i : ℕ) (e : Entry) → slice_get before.entries i ≡ Some e → slice_get stays i ≡ Some false → Goes (axioms_of before.entries) keep_annotated e.axiom
+  pub is : after ≡ record before { entries = flagged stays before.entries }
+  pub counted : count + length after.entries ≡ length before.entries

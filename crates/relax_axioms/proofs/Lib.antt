@@ -1,0 +1,5 @@
+mod Entailed
+mod Lists
+mod Missing
+mod Views
+mod Wanted

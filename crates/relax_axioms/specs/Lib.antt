@@ -1,0 +1,4 @@
+pub mod Laws
+pub mod Relax
+pub mod Relaxed
+pub mod inner

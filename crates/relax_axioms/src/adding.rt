@@ -1,0 +1,62 @@
+//! Relaxing: what is missing is collected, and then added to a copy.
+ghost use Rattle.std.specs.Prelude.{◌≡◌, ◌++◌, Contains, IfOk, OnErr, length, map};
+ghost use Rattle.owl_axioms.specs.Proper.{IsProper};
+ghost use Rattle.owl_ontology.specs.Ontology.{IsHeld, axioms_of};
+ghost use Rattle.owl_sem.specs.Laws.{KeepBoth};
+ghost use Rattle.relax_axioms.specs.Relax.{Relaxes, step_entries, step_origin};
+ghost use Rattle.relax_axioms.specs.Relaxed.{plain};
+
+use crate::unsaid::missing;
+use indexmap::IndexSet;
+use owl_axioms::{Axiom, Body};
+use owl_ontology::{Ontology, Origin};
+use rel_io::{Dup, Items, NoMemory};
+use std::alloc::Global;
+
+/// Adds each inclusion that a definition implies and no axiom says, without annotations, and says how many these are. It
+/// takes time in proportion to the axioms. Where no memory is left, nothing has happened.
+pub fn relax(alloc: Global, ontology: &mut Ontology) -> Result<u64, NoMemory>
+    ensures relaxed { IfOk result (Relaxes ontology.old ontology.new) }
+    ensures keeps { IfOk result (λ count. KeepBoth (axioms_of ontology.old.entries) (axioms_of ontology.new.entries)) }
+    ensures unchanged { OnErr result (ontology.new ≡ ontology.old) }
+{
+    let missing = missing(alloc, ontology)?;
+    let more = with_all(alloc, ontology, &missing)?;
+    *ontology = more;
+    Ok(missing.len() as u64)
+}
+
+/// The ontology with an axiom more for each of these, none of which it has.
+fn with_all(
+    alloc: Global,
+    ontology: &Ontology,
+    bodies: &IndexSet<Body>,
+) -> Result<Ontology, NoMemory>
+    requires proper { (b : Body) → Contains bodies.now.keys b → IsProper (plain b) }
+    requires absent { (b : Body) → Contains bodies.now.keys b → ¬ (IsHeld (plain b) ontology.now.entries) }
+    ensures { IfOk result (λ more. more ≡ record ontology.now { entries = ontology.now.entries ++ step_entries (map plain bodies.now.keys) }) }
+{
+    let mut more = ontology.copy(alloc)?;
+    for at in 0..bodies.len() {
+        let body = bodies.get_index(at).unwrap().copy(alloc)?;
+        more.add(plain_axiom(alloc, body), step_origin())?;
+    }
+    Ok(more)
+}
+
+/// An axiom without annotations.
+fn plain_axiom(alloc: Global, body: Body) -> Axiom
+    ensures { result ≡ plain body }
+{
+    Axiom {
+        body,
+        sides: Items::from_vec(Vec::new(alloc)),
+    }
+}
+
+/// Where an axiom comes from that a step added.
+fn step_origin() -> Origin
+    ensures { result ≡ step_origin }
+{
+    Origin { file: 0, line: 0 }
+}

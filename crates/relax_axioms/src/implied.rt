@@ -1,0 +1,110 @@
+//! What definitions imply.
+ghost use Rattle.std.specs.Prelude.{◌≡◌, ◌&&◌, ◌||◌, IfOk, MatchOption, None, OnOk, Some};
+ghost use Rattle.indexmap.specs.IndexSet.{contains};
+ghost use Rattle.owl_ontology.specs.Ontology.{axioms_of};
+ghost use Rattle.relax_axioms.specs.Relaxed.{below};
+ghost use Rattle.relax_axioms.specs.inner.Wanted as spec;
+ghost use Rattle.relax_axioms.specs.inner.Wanted.{among, defined_as, definition_in, implied_by, is_wanted, same_body, wanted_by};
+
+use indexmap::IndexSet;
+use owl_axioms::{Body, ClassExpr};
+use owl_ontology::Ontology;
+use rel_io::{Dup, Iri, NoMemory};
+use std::alloc::Global;
+
+/// The inclusions that definitions imply.
+pub fn wanted(alloc: Global, ontology: &Ontology) -> Result<IndexSet<Body>, NoMemory>
+    ensures { IfOk result (λ bodies. (b : Body) → contains same_body bodies b ≡ is_wanted (axioms_of ontology.now.entries) b) }
+{
+    let mut bodies = IndexSet::new(alloc);
+    for at in 0..ontology.len() {
+        push_wanted(alloc, &mut bodies, &ontology.get(at).body)?;
+    }
+    Ok(bodies)
+}
+
+/// Adds what an axiom implies by what it says.
+fn push_wanted(alloc: Global, bodies: &mut IndexSet<Body>, body: &Body) -> Result<(), NoMemory>
+    ensures { OnOk result ((b : Body) → contains same_body bodies.new b ≡ (contains same_body bodies.old b || among (wanted_by body.now) b)) }
+{
+    match definition_in(body) {
+        None => Ok(()),
+        Some((class, operands)) => push_operands(alloc, bodies, class, operands),
+    }
+}
+
+/// The class and the operands of a definition.
+#[tactic(auto, unfolding(crate::specs::inner::Wanted::definition_in))]
+fn definition_in(body: &Body) -> Option<(&Iri, &[ClassExpr])>
+    ensures { MatchOption result (definition_in body.now ≡ None) (λ found. definition_in body.now ≡ Some (found.0.now, found.1.now)) }
+{
+    match body {
+        Body::Equiv(one, other) => defined_as(one, other),
+        _ => None,
+    }
+}
+
+/// The class and the operands, where one is a class and the other an intersection.
+#[tactic(auto, unfolding(crate::specs::inner::Wanted::defined_as), using(crate::proofs::Views::views))]
+fn defined_as<'a>(one: &'a ClassExpr, other: &'a ClassExpr) -> Option<(&'a Iri, &'a [ClassExpr])>
+    ensures { MatchOption result (defined_as one.now other.now ≡ None) (λ found. defined_as one.now other.now ≡ Some (found.0.now, found.1.now)) }
+{
+    match (one, other) {
+        (ClassExpr::Class(class), ClassExpr::And(operands)) => Some((class, operands.as_slice())),
+        (ClassExpr::And(operands), ClassExpr::Class(class)) => Some((class, operands.as_slice())),
+        _ => None,
+    }
+}
+
+/// Adds what the operands of a class imply.
+fn push_operands(
+    alloc: Global,
+    bodies: &mut IndexSet<Body>,
+    class: &Iri,
+    operands: &[ClassExpr],
+) -> Result<(), NoMemory>
+    ensures { OnOk result ((b : Body) → contains same_body bodies.new b ≡ (contains same_body bodies.old b || among (implied_by class.now operands.now) b)) }
+{
+    for operand in operands {
+        push_operand(alloc, bodies, class, operand)?;
+    }
+    Ok(())
+}
+
+/// Adds what one operand of a class implies.
+fn push_operand(
+    alloc: Global,
+    bodies: &mut IndexSet<Body>,
+    class: &Iri,
+    operand: &ClassExpr,
+) -> Result<(), NoMemory>
+    ensures { OnOk result ((b : Body) → contains same_body bodies.new b ≡ (contains same_body bodies.old b || (spec.is_relaxed operand.now && same_body (below class.now operand.now) b))) }
+{
+    if !is_relaxed(operand) {
+        return Ok(());
+    }
+    let class = class.copy(alloc)?;
+    let operand = operand.copy(alloc)?;
+    bodies.insert(Body::Sub(ClassExpr::Class(class), operand))?;
+    Ok(())
+}
+
+/// Whether it is a class, or what has some filler in a class.
+#[tactic(auto, unfolding(crate::specs::inner::Wanted::is_relaxed), using(crate::proofs::Views::views))]
+fn is_relaxed(operand: &ClassExpr) -> bool
+    ensures { result ≡ spec.is_relaxed operand.now }
+{
+    match operand {
+        ClassExpr::Class(_) => true,
+        ClassExpr::Some(_, part) => is_class(part.get()),
+        _ => false,
+    }
+}
+
+/// Whether it is a class with a name.
+#[tactic(auto, unfolding(crate::specs::inner::Wanted::is_class))]
+fn is_class(part: &ClassExpr) -> bool
+    ensures { result ≡ spec.is_class part.now }
+{
+    matches!(part, ClassExpr::Class(_))
+}
