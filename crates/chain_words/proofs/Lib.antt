@@ -1,11 +1,15 @@
-pub mod Accepted
-pub mod ListLemmas
-pub mod PhraseLemmas
-pub mod NumberLemmas
-pub mod ScanLemmas
-pub mod ReadLemmas
-pub mod Names
-pub mod Apart
-pub mod Same
-pub mod Order
-pub mod Formats
+mod Accepted
+mod Alike
+mod Apart
+mod Clashes
+mod Front
+mod ListLemmas
+mod Names
+mod NumberLemmas
+mod Order
+mod ReadLemmas
+mod ScanLemmas
+mod Sound
+mod Spans
+mod Spelled
+mod Turns

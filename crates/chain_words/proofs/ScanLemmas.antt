@@ -2,8 +2,9 @@
 use Rattle.std.proofs.Common.{◌≡◌, ℕ, ◌+◌, ◌<◌, List, length, get_or, drop, map, Ok, ap, sym, subst, ◌∙◌}
 use Rattle.std.proofs.lemmas.List.{at_drop_more, get_or-map, length-map}
 use Rattle.chain_words.specs.Word.{Word}
-use Rattle.chain_words.specs.Reading.{Reading, IsBadWord, then_read}
-use Rattle.chain_words.specs.Scan.{turn, scan}
+use Rattle.chain_words.specs.Fault.{Reading, IsBadWord, then_read}
+use Rattle.chain_words.specs.Draft.{turn}
+use Rattle.chain_words.specs.Read.{scan}
 use Rattle.chain_words.specs.declared.draft.Draft.{Draft}
 use Rattle.chain_words.specs.declared.command.Command.{Command}
 use Rattle.chain_words.specs.declared.fault.WordFault.{WordFault}

@@ -1,10 +1,13 @@
 pub mod Word
 pub mod Table
-pub mod Choices
+pub mod Setting
+pub mod Given
 pub mod Number
-pub mod Reading
+pub mod Fault
 pub mod Step
+pub mod Command
 pub mod Clash
-pub mod Scan
-pub mod Chain
+pub mod Draft
+pub mod Read
 pub mod Laws
+pub mod inner

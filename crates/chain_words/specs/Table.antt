@@ -1,29 +1,34 @@
--- The table of the command line. (Own, after the commands and options of ROBOT.)
-use Rattle.std.specs.Prelude.{List, [], ◌∷◌, codes}
-use Rattle.chain_words.specs.Word.{Word}
+-- The table of the command line: the commands and their options. (Own, after the commands and options of ROBOT.)
+use Rattle.std.specs.Prelude.{List, [], ◌∷◌, Option, codes}
+use Rattle.chain_words.specs.Word.{Word, named}
 use Rattle.chain_words.specs.declared.table.CommandWord.{CommandWord}
-use Rattle.chain_words.specs.declared.table.CommandWord.TheVariants.{Merge, Extract, Reason, Relax, Reduce, Convert, Generate}
+use Rattle.chain_words.specs.declared.table.CommandWord.TheVariants.{Merge, Generate, Step}
+use Rattle.chain_words.specs.declared.table.StepWord.{StepWord}
+use Rattle.chain_words.specs.declared.table.StepWord.TheVariants.{Extract, Reason, Relax, Reduce, Convert}
 use Rattle.chain_words.specs.declared.table.OptionWord.{OptionWord}
 use Rattle.chain_words.specs.declared.table.OptionWord.TheVariants.{Input, Catalog, TermFile, Output, Method, Preserve, Format, Check}
-use Rattle.chain_words.specs.declared.table.Times.{Times}
-use Rattle.chain_words.specs.declared.table.Times.TheVariants.{OneOrMore, Once, AtMostOnce}
-use Rattle.chain_words.specs.declared.table.Kind.{Kind}
-use Rattle.chain_words.specs.declared.table.Kind.TheVariants.{Read, Written, MethodWord, FormatWord, BoolWord}
-use Rattle.chain_words.specs.declared.table.Rule.{Rule}
 
--- the commands
-abbrev pub command_words : List CommandWord
-command_words = Merge ∷ Extract ∷ Reason ∷ Relax ∷ Reduce ∷ Convert ∷ Generate ∷ []
+-- the word of a command behind `merge`
+abbrev pub step_word : StepWord → Word
+step_word Extract = codes "extract"
+step_word Reason = codes "reason"
+step_word Relax = codes "relax"
+step_word Reduce = codes "reduce"
+step_word Convert = codes "convert"
 
 -- the word of a command
 abbrev pub command_word : CommandWord → Word
 command_word Merge = codes "merge"
-command_word Extract = codes "extract"
-command_word Reason = codes "reason"
-command_word Relax = codes "relax"
-command_word Reduce = codes "reduce"
-command_word Convert = codes "convert"
 command_word Generate = codes "generate"
+command_word (Step command) = step_word command
+
+-- the commands
+abbrev pub command_words : List CommandWord
+command_words = Merge ∷ Generate ∷ Step Extract ∷ Step Reason ∷ Step Relax ∷ Step Reduce ∷ Step Convert ∷ []
+
+-- the command that a word stands for
+abbrev pub command_of : Word → Option CommandWord
+command_of word = named command_word command_words word
 
 -- the word of an option
 abbrev pub option_word : OptionWord → Word
@@ -36,27 +41,14 @@ option_word Preserve = codes "--preserve-annotated-axioms"
 option_word Format = codes "--format"
 option_word Check = codes "--check"
 
--- what the value of an option is
-abbrev pub kind_of : OptionWord → Kind
-kind_of Input = Read
-kind_of Catalog = Read
-kind_of TermFile = Read
-kind_of Output = Written
-kind_of Method = MethodWord
-kind_of Preserve = BoolWord
-kind_of Format = FormatWord
-kind_of Check = BoolWord
+-- the options of `merge`
+abbrev pub merge_options : List OptionWord
+merge_options = Input ∷ Catalog ∷ Output ∷ []
 
--- a line of the table
-abbrev pub rule : OptionWord → Times → Rule
-rule option times = record { option = option; times = times }
-
--- the options of a command, and how often each may stand in its step
-abbrev pub options : CommandWord → List Rule
-options Merge = rule Input OneOrMore ∷ rule Catalog AtMostOnce ∷ rule Output AtMostOnce ∷ []
-options Extract = rule Method Once ∷ rule TermFile Once ∷ rule Output AtMostOnce ∷ []
-options Reason = rule Output AtMostOnce ∷ []
-options Relax = rule Output AtMostOnce ∷ []
-options Reduce = rule Preserve AtMostOnce ∷ rule Output AtMostOnce ∷ []
-options Convert = rule Output Once ∷ rule Format AtMostOnce ∷ rule Check AtMostOnce ∷ []
-options Generate = []
+-- the options of a later step; `generate` has none
+abbrev pub step_options : StepWord → List OptionWord
+step_options Extract = Method ∷ TermFile ∷ Output ∷ []
+step_options Reason = Output ∷ []
+step_options Relax = Output ∷ []
+step_options Reduce = Preserve ∷ Output ∷ []
+step_options Convert = Output ∷ Format ∷ Check ∷ []

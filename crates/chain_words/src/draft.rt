@@ -1,20 +1,23 @@
 //! What the words read so far say, and what one more word adds. What a bad word makes useless is dropped by a call, so that
 //! a proof speaks of one call and not of each field.
-ghost use Rattle.std.specs.Prelude.{◌≡◌, ◌<◌, ◌^◌, ◌+◌, nat_le, Ok, Some, None, if◌then◌else◌, IfOk, IfErr};
-ghost use Rattle.chain_words.specs.Reading.{Answers, IsBadWord};
-ghost use Rattle.chain_words.specs.Scan.{at_option, at_value, with_setting, at_command, at_place, at_word, begun, turn, at_end, tested, command_of, rule_of, stands_first, most_commands};
-ghost use Rattle.chain_words.specs.declared.fault.WordKind.TheVariants.{NotHere, TooMany};
-ghost use Rattle.chain_words.specs.declared.draft.Draft.{Draft};
+ghost use Rattle.std.specs.Prelude.{◌≡◌, Ok, IfOk, IfErr, None};
 ghost use Rattle.chain_words.specs.Clash.{first_clash};
+ghost use Rattle.chain_words.specs.Draft.{at_command, at_end, at_option, at_place, at_value, at_word, begun, ended, next_command, option_of, tested, turn, with_given};
+ghost use Rattle.chain_words.specs.Fault.{IsBadWord};
+ghost use Rattle.chain_words.specs.inner.Answers.{Answers};
+ghost use Rattle.chain_words.specs.Given.{with_setting};
+ghost use Rattle.chain_words.specs.Table.{command_of};
+ghost use Rattle.chain_words.specs.declared.draft.Draft.{Draft};
 
-use crate::choices::accepts;
 use crate::clash::first_clash;
-use crate::lists::{joined, pushed};
-use crate::phrase::{Phrase, Setting, setting_of};
-use crate::step::ended;
-use crate::table::{CommandWord, OptionWord, Rule, command_of, rule_of};
+use crate::fault::bad;
+use crate::given::{Given, Placed, nothing, stands_again, with_output, with_setting};
+use crate::setting::{Setting, setting_of};
+use crate::step::{followed, merged};
+use crate::table::{CommandWord, OptionWord, StepWord, command_of, merge_options, step_options};
+use crate::word::find_named;
 use crate::{Chain, Command, WordFault, WordKind};
-use rel_io::{Bytes, Items, NoMemory};
+use rel_io::{Items, NoMemory};
 use std::alloc::Global;
 
 /// The most commands that a chain has, `merge` among them.
@@ -29,41 +32,104 @@ pub struct Asked {
     pub at: u32,
 }
 
+/// The command of the step that is being read, with the chain before it.
+#[derive(Drop)]
+pub enum Part {
+    /// `merge`, before which there is nothing.
+    Merge,
+    /// A later step, behind a chain.
+    Step {
+        /// The steps before it.
+        chain: Chain,
+        /// Its command.
+        command: StepWord,
+    },
+}
+
 /// What the words so far say.
 #[derive(Drop)]
 pub struct Draft {
-    /// The chain of the steps that have ended.
-    pub chain: Chain,
-    /// The settings of these steps, in order.
-    pub earlier: Items<Setting>,
-    /// The step that is being read.
-    pub phrase: Phrase,
+    /// The command of the step that is being read.
+    pub part: Part,
+    /// The index of its word.
+    pub at: u32,
+    /// What the step is given.
+    pub given: Given,
+    /// The outputs of the steps before it, in order.
+    pub outputs: Items<Placed>,
     /// The option whose value the next word is, if there is one.
     pub asked: Option<Asked>,
 }
 
-/// This word is bad.
-fn bad(index: u32, kind: WordKind) -> WordFault
-    ensures { result ≡ WordFault.BadWord index kind }
+/// The option of the step that a word stands for.
+fn option_of(part: &Part, word: &[u8]) -> Option<OptionWord>
+    ensures { result ≡ option_of part.now word.now }
 {
-    WordFault::BadWord { index, kind }
+    match part {
+        Part::Merge => find_named(merge_options(), word),
+        Part::Step { command, .. } => find_named(step_options(*command), word),
+    }
+}
+
+/// Where a step ends, it means the chain with it.
+fn ended(alloc: Global, part: Part, at: u32, given: Given) -> Result<Chain, WordFault>
+    ensures { Answers (ended part at given) result }
+{
+    match part {
+        Part::Merge => merged(alloc, at, given),
+        Part::Step { chain, command } => followed(chain, command, at, given),
+    }
 }
 
 /// An option word: its value comes next.
-fn at_option(mut draft: Draft, rule: Rule, at: u32) -> Result<Draft, WordFault>
-    ensures { Answers (at_option draft rule at) result }
+fn at_option(mut draft: Draft, option: OptionWord, at: u32) -> Result<Draft, WordFault>
+    ensures { Answers (at_option draft option at) result }
 {
-    let settings = draft.phrase.settings.as_slice();
-    let is_repeated = rule.times.stands_once() && setting_of(rule.option, settings).is_some();
-    if is_repeated {
+    if stands_again(option, &draft.given) {
         drop(draft);
         return Err(bad(at, WordKind::Repeated));
     }
-    draft.asked = Some(Asked {
-        option: rule.option,
-        at,
-    });
+    draft.asked = Some(Asked { option, at });
     Ok(draft)
+}
+
+/// The setting that this word gives to an option, whatever the draft.
+fn setting_at(alloc: Global, option: OptionWord, at: u32, word: &[u8]) -> Result<Setting, WordFault>
+    ensures setting { IfOk result (λ setting. (draft : Draft) → at_value draft option at word.now ≡ Ok (with_given draft setting at)) }
+    ensures bad_value { IfErr result (λ fault. (draft : Draft) → IsBadWord (at_value draft option at word.now) fault) }
+{
+    match setting_of(alloc, option, word) {
+        Ok(Some(setting)) => Ok(setting),
+        Ok(None) => Err(bad(at, WordKind::BadValue)),
+        Err(NoMemory) => Err(WordFault::NoMemory),
+    }
+}
+
+/// The step is given one more value.
+fn with_given(draft: Draft, setting: Setting, at: u32) -> Result<Draft, WordFault>
+    ensures { Answers (Ok (with_given draft setting at)) result }
+{
+    let Draft {
+        part,
+        at: begun_at,
+        given,
+        outputs,
+        asked: _,
+    } = draft;
+    match with_setting(given, setting, at) {
+        Ok(given) => Ok(Draft {
+            part,
+            at: begun_at,
+            given,
+            outputs,
+            asked: None,
+        }),
+        Err(NoMemory) => {
+            drop(part);
+            drop(outputs);
+            Err(WordFault::NoMemory)
+        }
+    }
 }
 
 /// The value of an option.
@@ -77,7 +143,7 @@ fn at_value(
     ensures { Answers (at_value draft option at word.now) result }
 {
     match setting_at(alloc, option, at, word) {
-        Ok(setting) => with_setting(draft, setting),
+        Ok(setting) => with_given(draft, setting, at),
         Err(fault) => {
             drop(draft);
             Err(fault)
@@ -85,90 +151,45 @@ fn at_value(
     }
 }
 
-/// The setting that this word gives to an option, whatever the draft.
-fn setting_at(alloc: Global, option: OptionWord, at: u32, word: &[u8]) -> Result<Setting, WordFault>
-    ensures setting { IfOk result (λ setting. (draft : Draft) → at_value draft option at word.now ≡ Ok (record draft { phrase = with_setting draft.phrase setting.option setting.at setting.value; asked = None })) }
-    ensures bad_value { IfErr result (λ fault. (draft : Draft) → IsBadWord (at_value draft option at word.now) fault) }
+/// What a command word begins behind a chain: the command of a later step, where one may stand.
+fn next_command(command: CommandWord, steps: usize) -> Result<StepWord, WordKind>
+    ensures { result ≡ next_command command steps }
 {
-    if !accepts(option, word) {
-        return Err(bad(at, WordKind::BadValue));
-    }
-    let value = Bytes::from_slice(alloc, word)?;
-    Ok(Setting { option, at, value })
-}
-
-/// The step has one more setting.
-fn with_setting(draft: Draft, setting: Setting) -> Result<Draft, WordFault>
-    ensures { Answers (Ok (record draft { phrase = with_setting draft.phrase setting.option setting.at setting.value; asked = None })) result }
-{
-    let Draft {
-        chain,
-        earlier,
-        phrase,
-        asked: _,
-    } = draft;
-    let Phrase {
-        command,
-        at,
-        settings,
-    } = phrase;
-    match pushed(settings, setting) {
-        Ok(settings) => Ok(Draft {
-            chain,
-            earlier,
-            phrase: Phrase {
-                command,
-                at,
-                settings,
-            },
-            asked: None,
-        }),
-        Err(NoMemory) => {
-            drop(chain);
-            drop(earlier);
-            Err(WordFault::NoMemory)
+    match command {
+        CommandWord::Merge | CommandWord::Generate => Err(WordKind::NotHere),
+        CommandWord::Step(step) => {
+            if steps >= MOST_COMMANDS - 1 {
+                return Err(WordKind::TooMany);
+            }
+            Ok(step)
         }
     }
-}
-
-/// What is wrong with a step of this command behind so many later steps.
-fn misplaced(command: CommandWord, steps: usize) -> Option<WordKind>
-    ensures { result ≡ (if stands_first command then Some NotHere else (if nat_le most_commands (steps + 1) then Some TooMany else None)) }
-{
-    if command.stands_first() {
-        return Some(WordKind::NotHere);
-    }
-    if steps >= MOST_COMMANDS - 1 {
-        return Some(WordKind::TooMany);
-    }
-    None
 }
 
 /// A step of this command begins, behind the steps of a chain.
 fn begun(
     alloc: Global,
-    earlier: Items<Setting>,
+    outputs: Items<Placed>,
     command: CommandWord,
     at: u32,
     chain: Chain,
 ) -> Result<Draft, WordFault>
-    ensures { Answers (begun earlier command at chain) result }
+    ensures { Answers (begun outputs command at chain) result }
 {
-    if let Some(kind) = misplaced(command, chain.steps.as_slice().len()) {
-        drop(chain);
-        drop(earlier);
-        return Err(bad(at, kind));
-    }
-    Ok(Draft {
-        chain,
-        earlier,
-        phrase: Phrase {
-            command,
+    match next_command(command, chain.steps.as_slice().len()) {
+        Ok(command) => Ok(Draft {
+            part: Part::Step { chain, command },
             at,
-            settings: Items::from_vec(Vec::new(alloc)),
-        },
-        asked: None,
-    })
+            given: nothing(alloc),
+            outputs,
+            asked: None,
+        }),
+        Err(kind) => {
+            drop(chain);
+            drop(outputs);
+            Err(bad(at, kind))
+        }
+    }
 }
 
 /// A command word: the step before it ends.
@@ -181,21 +202,21 @@ fn at_command(
     ensures { Answers (at_command draft command at) result }
 {
     let Draft {
-        chain,
-        earlier,
-        phrase,
+        part,
+        at: begun_at,
+        given,
+        outputs,
         asked: _,
     } = draft;
-    let ended = ended(alloc, chain, &phrase);
-    let joined = joined(earlier, phrase.settings);
-    match (ended, joined) {
-        (Ok(chain), Ok(earlier)) => begun(alloc, earlier, command, at, chain),
+    let outputs = with_output(alloc, outputs, &given.output);
+    match (ended(alloc, part, begun_at, given), outputs) {
+        (Ok(chain), Ok(outputs)) => begun(alloc, outputs, command, at, chain),
         (Ok(chain), Err(NoMemory)) => {
             drop(chain);
             Err(WordFault::NoMemory)
         }
-        (Err(fault), joined) => {
-            drop(joined);
+        (Err(fault), outputs) => {
+            drop(outputs);
             Err(fault)
         }
     }
@@ -203,10 +224,10 @@ fn at_command(
 
 /// A word that stands for an option, else for a command.
 fn at_word(alloc: Global, draft: Draft, at: u32, word: &[u8]) -> Result<Draft, WordFault>
-    ensures { Answers (at_word (rule_of draft.phrase.command word.now) (command_of word.now) draft at) result }
+    ensures { Answers (at_word (option_of draft.part word.now) (command_of word.now) draft at) result }
 {
-    match rule_of(draft.phrase.command, word) {
-        Some(rule) => at_option(draft, rule, at),
+    match option_of(&draft.part, word) {
+        Some(option) => at_option(draft, option, at),
         None => match command_of(word) {
             Some(command) => at_command(alloc, draft, command, at),
             None => {
@@ -217,7 +238,7 @@ fn at_word(alloc: Global, draft: Draft, at: u32, word: &[u8]) -> Result<Draft, W
     }
 }
 
-/// One more word.
+/// What one more word adds.
 pub fn turn(alloc: Global, draft: Draft, at: u32, word: &[u8]) -> Result<Draft, WordFault>
     ensures { Answers (turn draft at word.now) result }
 {
@@ -228,10 +249,10 @@ pub fn turn(alloc: Global, draft: Draft, at: u32, word: &[u8]) -> Result<Draft, 
 }
 
 /// A chain whose outputs have names of their own.
-fn tested(chain: Chain, settings: &[Setting]) -> Result<Command, WordFault>
-    ensures { Answers (tested chain (first_clash settings.now)) result }
+fn tested(chain: Chain, outputs: &[Placed]) -> Result<Command, WordFault>
+    ensures { Answers (tested chain (first_clash chain outputs.now)) result }
 {
-    match first_clash(settings) {
+    match first_clash(&chain, outputs) {
         None => Ok(Command::Run(chain)),
         Some(fault) => {
             drop(chain);
@@ -249,21 +270,21 @@ pub fn at_end(alloc: Global, draft: Draft) -> Result<Command, WordFault>
         return Err(bad(asked.at, WordKind::NoValue));
     }
     let Draft {
-        chain,
-        earlier,
-        phrase,
+        part,
+        at,
+        given,
+        outputs,
         asked: _,
     } = draft;
-    let ended = ended(alloc, chain, &phrase);
-    let joined = joined(earlier, phrase.settings);
-    match (ended, joined) {
-        (Ok(chain), Ok(settings)) => tested(chain, settings.as_slice()),
+    let outputs = with_output(alloc, outputs, &given.output);
+    match (ended(alloc, part, at, given), outputs) {
+        (Ok(chain), Ok(outputs)) => tested(chain, outputs.as_slice()),
         (Ok(chain), Err(NoMemory)) => {
             drop(chain);
             Err(WordFault::NoMemory)
         }
-        (Err(fault), joined) => {
-            drop(joined);
+        (Err(fault), outputs) => {
+            drop(outputs);
             Err(fault)
         }
     }

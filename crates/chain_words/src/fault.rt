@@ -1,4 +1,4 @@
-//! What can be wrong with the words.
+//! What can be wrong with a word.
 ghost use Rattle.std.specs.Prelude.{◌≡◌};
 ghost use Rattle.chain_words.specs.declared.fault.WordFault.TheVariants as fault;
 
@@ -34,7 +34,7 @@ pub enum WordKind {
     OutputTwice,
 }
 
-/// Why there is no command: the bad word that comes first, or want of memory.
+/// Why there is no command: the bad word that comes first, or memory ran out.
 #[derive(Clone, Copy, Debug, PartialEq, Eq)]
 pub enum WordFault {
     /// A word is wrong.
@@ -44,7 +44,7 @@ pub enum WordFault {
         /// What is wrong with it.
         kind: WordKind,
     },
-    /// No memory was left.
+    /// Memory ran out.
     NoMemory,
 }
 
@@ -71,4 +71,11 @@ impl From<NoMemory> for WordFault {
     fn from(_: NoMemory) -> WordFault {
         WordFault::NoMemory
     }
+}
+
+/// This word is bad.
+pub(crate) fn bad(index: u32, kind: WordKind) -> WordFault
+    ensures { result ≡ fault.BadWord index kind }
+{
+    WordFault::BadWord { index, kind }
 }

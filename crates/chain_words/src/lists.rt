@@ -11,13 +11,3 @@ pub fn pushed<T: Drop>(list: Items<T>, item: T) -> Result<Items<T>, NoMemory>
     items.push(item)?;
     Ok(Items::from_vec(items))
 }
-
-/// A list and behind it another.
-pub fn joined<T: Drop>(front: Items<T>, back: Items<T>) -> Result<Items<T>, NoMemory>
-    ensures { IfOk result (λ longer. longer ≡ front ++ back) }
-{
-    let mut items = front.into_vec();
-    let mut rest = back.into_vec();
-    items.append(&mut rest)?;
-    Ok(Items::from_vec(items))
-}

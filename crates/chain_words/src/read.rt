@@ -1,14 +1,15 @@
 //! The words of a run of the program.
 ghost use Rattle.std.specs.Prelude.{◌≡◌, ◌≤◌, map, length, string_bytes, List, drop, IfOk, IfErr};
-ghost use Rattle.chain_words.specs.Reading.{Answers, IsBadWord};
-ghost use Rattle.chain_words.specs.Scan.{scan};
-ghost use Rattle.chain_words.specs.Chain.{chain, at_merge, generated, only_size, all_words, begun_by};
+ghost use Rattle.chain_words.specs.Fault.{IsBadWord};
+ghost use Rattle.chain_words.specs.inner.Answers.{Answers};
+ghost use Rattle.chain_words.specs.Read.{all_words, at_merge, begun_by, chain, generated, only_size, scan};
 
-use crate::draft::{Draft, at_end, turn};
+use crate::draft::{Draft, Part, at_end, turn};
+use crate::fault::bad;
+use crate::given::nothing;
 use crate::number::size_of;
-use crate::phrase::Phrase;
 use crate::table::{CommandWord, command_of};
-use crate::{Chain, Command, WordFault, WordKind};
+use crate::{Command, WordFault, WordKind};
 use rel_io::Items;
 use std::alloc::Global;
 
@@ -20,18 +21,10 @@ fn at_merge(alloc: Global) -> Draft
     ensures { result ≡ at_merge }
 {
     Draft {
-        chain: Chain {
-            inputs: Items::from_vec(Vec::new(alloc)),
-            catalog: None,
-            first: None,
-            steps: Items::from_vec(Vec::new(alloc)),
-        },
-        earlier: Items::from_vec(Vec::new(alloc)),
-        phrase: Phrase {
-            command: CommandWord::Merge,
-            at: 0,
-            settings: Items::from_vec(Vec::new(alloc)),
-        },
+        part: Part::Merge,
+        at: 0,
+        given: nothing(alloc),
+        outputs: Items::from_vec(Vec::new(alloc)),
         asked: None,
     }
 }
@@ -53,22 +46,13 @@ fn generated(words: &[String]) -> Result<Command, WordFault>
     ensures { Answers (generated (drop 1 (map string_bytes words.now))) result }
 {
     if words.len() < 2 {
-        return Err(WordFault::BadWord {
-            index: 0,
-            kind: WordKind::MissingOption,
-        });
+        return Err(bad(0, WordKind::MissingOption));
     }
     match size_of(words[1].as_bytes()) {
-        None => Err(WordFault::BadWord {
-            index: 1,
-            kind: WordKind::BadValue,
-        }),
+        None => Err(bad(1, WordKind::BadValue)),
         Some(size) => {
             if words.len() > 2 {
-                return Err(WordFault::BadWord {
-                    index: 2,
-                    kind: WordKind::UnknownWord,
-                });
+                return Err(bad(2, WordKind::UnknownWord));
             }
             Ok(Command::Generate(size))
         }
@@ -87,10 +71,7 @@ fn begun_by(
     match command {
         Some(CommandWord::Merge) => scanned(alloc, words),
         Some(CommandWord::Generate) => generated(words),
-        _ => Err(WordFault::BadWord {
-            index: 0,
-            kind: WordKind::NoCommand,
-        }),
+        _ => Err(bad(0, WordKind::NoCommand)),
     }
 }
 
@@ -100,10 +81,7 @@ fn all_words(alloc: Global, words: &[String]) -> Result<Command, WordFault>
     ensures { Answers (all_words (map string_bytes words.now)) result }
 {
     if words.is_empty() {
-        return Err(WordFault::BadWord {
-            index: 0,
-            kind: WordKind::NoCommand,
-        });
+        return Err(bad(0, WordKind::NoCommand));
     }
     begun_by(alloc, command_of(words[0].as_bytes()), words)
 }
@@ -114,10 +92,7 @@ pub fn read_words(alloc: Global, words: &Vec<String>) -> Result<Command, WordFau
     ensures bad_word { IfErr result (IsBadWord (chain (map string_bytes words.now.items))) }
 {
     if words.len() > MOST_WORDS {
-        return Err(WordFault::BadWord {
-            index: MOST_WORDS as u32,
-            kind: WordKind::TooMany,
-        });
+        return Err(bad(MOST_WORDS as u32, WordKind::TooMany));
     }
     all_words(alloc, words.as_slice())
 }

@@ -1,15 +1,14 @@
-//! Where a step ends: what is tested there, and what the step means.
-ghost use Rattle.std.specs.Prelude.{◌≡◌, IfOk};
-ghost use Rattle.chain_words.specs.Reading.{Answers};
-ghost use Rattle.chain_words.specs.Step.{ended, joined, followed, merged, step_of, output_of, output_to, or_else, format_of, format_of_name};
+//! What a step means where it ends: what it needs, and its output.
+ghost use Rattle.std.specs.Prelude.{◌≡◌, ◌++◌, ◌∷◌, [], IfOk};
+ghost use Rattle.chain_words.specs.inner.Answers.{Answers};
+ghost use Rattle.chain_words.specs.Step.{converted, extracted, followed, format_of_name, merged, output_to, plain_output, step_of, with_plain_output};
 
+use crate::fault::bad;
+use crate::given::{Given, Placed};
 use crate::lists::pushed;
-use crate::phrase::{
-    Phrase, Setting, bool_of, format_of, lacks, method_of, setting_of, value_of, values_of,
-};
-use crate::table::{CommandWord, OptionWord};
-use crate::{Chain, Format, Output, Step, WordFault, WordKind};
-use rel_io::{Dup, Items, NoMemory};
+use crate::table::StepWord;
+use crate::{Chain, Format, Method, Output, Step, WordFault, WordKind};
+use rel_io::{Bytes, Items, NoMemory};
 use std::alloc::Global;
 
 /// The format that the end of a name tells.
@@ -25,192 +24,190 @@ fn format_of_name(name: &[u8]) -> Option<Format>
     None
 }
 
-/// The format of the file of this name: the one that the step names, else the one that the name tells.
-fn format_for(name: &[u8], settings: &[Setting]) -> Option<Format>
-    ensures { result ≡ or_else (format_of settings.now) (format_of_name name.now) }
+/// The output in this file, where it has a format.
+fn output_to(file: Placed, format: Option<Format>, check: bool) -> Result<Output, WordFault>
+    ensures { Answers (output_to file format check) result }
 {
-    match format_of(settings) {
-        None => format_of_name(name),
-        Some(format) => Some(format),
-    }
-}
-
-/// The output of a step that writes this file.
-fn output_to(
-    alloc: Global,
-    file: &Setting,
-    settings: &[Setting],
-) -> Result<Option<Output>, WordFault>
-    ensures { Answers (output_to file.now (or_else (format_of settings.now) (format_of_name file.now.value)) settings.now) result }
-{
-    match format_for(file.value.as_slice(), settings) {
-        None => Err(WordFault::BadWord {
-            index: file.at,
-            kind: WordKind::NoFormat,
-        }),
-        Some(format) => {
-            let name = file.value.copy(alloc)?;
-            let check = bool_of(OptionWord::Check, true, settings);
-            Ok(Some(Output {
-                name,
-                format,
-                check,
-            }))
-        }
-    }
-}
-
-/// The output of a step, where it has one.
-fn output_of(alloc: Global, settings: &[Setting]) -> Result<Option<Output>, WordFault>
-    ensures { Answers (output_of settings.now) result }
-{
-    match setting_of(OptionWord::Output, settings) {
-        None => Ok(None),
-        Some(file) => output_to(alloc, file, settings),
-    }
-}
-
-/// An extraction, where its method and its term file are given.
-fn extraction(alloc: Global, settings: &[Setting]) -> Result<Option<Step>, NoMemory>
-    ensures { IfOk result (λ step. step ≡ step_of CommandWord.Extract settings.now) }
-{
-    let Some(method) = method_of(settings) else {
-        return Ok(None);
-    };
-    match value_of(alloc, OptionWord::TermFile, settings)? {
-        None => Ok(None),
-        Some(terms) => Ok(Some(Step::Extract { method, terms })),
-    }
-}
-
-/// What a later step does; none where a required option is not given.
-fn step_of(
-    alloc: Global,
-    command: CommandWord,
-    settings: &[Setting],
-) -> Result<Option<Step>, NoMemory>
-    ensures { IfOk result (λ step. step ≡ step_of command settings.now) }
-{
-    match command {
-        CommandWord::Merge => Ok(None),
-        CommandWord::Extract => extraction(alloc, settings),
-        CommandWord::Reason => Ok(Some(Step::Reason)),
-        CommandWord::Relax => Ok(Some(Step::Relax)),
-        CommandWord::Reduce => {
-            let keep = bool_of(OptionWord::Preserve, false, settings);
-            Ok(Some(Step::Reduce { keep }))
-        }
-        CommandWord::Convert => Ok(Some(Step::Convert)),
-        CommandWord::Generate => Ok(None),
-    }
-}
-
-/// The chain that begins with this `merge`.
-fn merged(alloc: Global, settings: &[Setting], output: Option<Output>) -> Result<Chain, NoMemory>
-    ensures { IfOk result (λ chain. chain ≡ merged settings.now output) }
-{
-    let inputs = values_of(alloc, OptionWord::Input, settings);
-    let catalog = value_of(alloc, OptionWord::Catalog, settings);
-    match (inputs, catalog) {
-        (Ok(inputs), Ok(catalog)) => Ok(Chain {
-            inputs,
-            catalog,
-            first: output,
-            steps: Items::from_vec(Vec::new(alloc)),
-        }),
-        (inputs, catalog) => {
-            drop(inputs);
-            drop(catalog);
-            drop(output);
-            Err(NoMemory)
-        }
-    }
-}
-
-/// The chain with a later step.
-fn followed(
-    chain: Chain,
-    step: Option<Step>,
-    output: Option<Output>,
-    at: u32,
-) -> Result<Chain, WordFault>
-    ensures { Answers (followed chain step output at) result }
-{
-    match step {
+    let Placed { at, name } = file;
+    match format {
         None => {
-            drop(chain);
-            drop(output);
-            Err(WordFault::BadWord {
-                index: at,
-                kind: WordKind::MissingOption,
-            })
+            drop(name);
+            Err(bad(at, WordKind::NoFormat))
         }
-        Some(step) => {
-            let Chain {
-                inputs,
-                catalog,
-                first,
-                steps,
-            } = chain;
-            match pushed(steps, (step, output)) {
-                Ok(steps) => Ok(Chain {
-                    inputs,
-                    catalog,
-                    first,
-                    steps,
-                }),
-                Err(NoMemory) => {
-                    drop(inputs);
-                    drop(catalog);
-                    drop(first);
-                    Err(WordFault::NoMemory)
-                }
+        Some(format) => Ok(Output {
+            name,
+            format,
+            check,
+        }),
+    }
+}
+
+/// The output of a step that is no `convert`, if it has one.
+fn plain_output(file: Option<Placed>) -> Result<Option<Output>, WordFault>
+    ensures { Answers (plain_output file) result }
+{
+    match file {
+        None => Ok(None),
+        Some(file) => {
+            let format = format_of_name(file.name.as_slice());
+            match output_to(file, format, true) {
+                Ok(output) => Ok(Some(output)),
+                Err(fault) => Err(fault),
             }
         }
     }
 }
 
-/// The chain with the step that ends.
-fn joined(
-    alloc: Global,
-    chain: Chain,
-    phrase: &Phrase,
-    output: Option<Output>,
-) -> Result<Chain, WordFault>
-    ensures { Answers (joined chain phrase.now output) result }
+/// A step that is no `convert`, with its output.
+fn with_plain_output(step: Step, file: Option<Placed>) -> Result<(Step, Option<Output>), WordFault>
+    ensures { Answers (with_plain_output step file) result }
 {
-    let settings = phrase.settings.as_slice();
-    if phrase.command.is_merge() {
-        drop(chain);
-        let begun = merged(alloc, settings, output)?;
-        return Ok(begun);
-    }
-    match step_of(alloc, phrase.command, settings) {
-        Ok(step) => followed(chain, step, output, phrase.at),
-        Err(NoMemory) => {
-            drop(chain);
-            drop(output);
-            Err(WordFault::NoMemory)
+    match plain_output(file) {
+        Ok(output) => Ok((step, output)),
+        Err(fault) => {
+            drop(step);
+            Err(fault)
         }
     }
 }
 
-/// Ends a step: a required option may be missing, and then an output may have no format.
-pub fn ended(alloc: Global, chain: Chain, phrase: &Phrase) -> Result<Chain, WordFault>
-    ensures { Answers (ended chain phrase.now) result }
+/// What `extract` means: it needs a method and a term file.
+fn extracted(
+    at: u32,
+    method: Option<Method>,
+    terms: Option<Bytes>,
+    file: Option<Placed>,
+) -> Result<(Step, Option<Output>), WordFault>
+    ensures { Answers (extracted at method terms file) result }
 {
-    if lacks(phrase) {
-        drop(chain);
-        return Err(WordFault::BadWord {
-            index: phrase.at,
-            kind: WordKind::MissingOption,
-        });
+    match (method, terms) {
+        (Some(method), Some(terms)) => with_plain_output(Step::Extract { method, terms }, file),
+        (_, terms) => {
+            drop(terms);
+            drop(file);
+            Err(bad(at, WordKind::MissingOption))
+        }
     }
-    match output_of(alloc, phrase.settings.as_slice()) {
-        Ok(output) => joined(alloc, chain, phrase, output),
+}
+
+/// What `convert` means: it needs an output, of which it may choose the format and the check.
+fn converted(
+    at: u32,
+    file: Option<Placed>,
+    format: Option<Format>,
+    check: Option<bool>,
+) -> Result<(Step, Option<Output>), WordFault>
+    ensures { Answers (converted at file format check) result }
+{
+    let Some(file) = file else {
+        return Err(bad(at, WordKind::MissingOption));
+    };
+    let format = format.or(format_of_name(file.name.as_slice()));
+    match output_to(file, format, check.unwrap_or(true)) {
+        Ok(output) => Ok((Step::Convert, Some(output))),
+        Err(fault) => Err(fault),
+    }
+}
+
+/// A later step with its output.
+fn step_of(command: StepWord, at: u32, given: Given) -> Result<(Step, Option<Output>), WordFault>
+    ensures { Answers (step_of command at given) result }
+{
+    let Given {
+        inputs,
+        catalog,
+        terms,
+        output,
+        method,
+        preserve,
+        format,
+        check,
+    } = given;
+    drop(inputs);
+    drop(catalog);
+    match command {
+        StepWord::Extract => extracted(at, method, terms, output),
+        StepWord::Reason => with_plain_output(Step::Reason, output),
+        StepWord::Relax => with_plain_output(Step::Relax, output),
+        StepWord::Reduce => {
+            let keep = preserve.unwrap_or(false);
+            with_plain_output(Step::Reduce { keep }, output)
+        }
+        StepWord::Convert => converted(at, output, format, check),
+    }
+}
+
+/// The chain that begins with this `merge`, which needs an input.
+pub fn merged(alloc: Global, at: u32, given: Given) -> Result<Chain, WordFault>
+    ensures { Answers (merged at given) result }
+{
+    let Given {
+        inputs,
+        catalog,
+        terms,
+        output,
+        ..
+    } = given;
+    drop(terms);
+    if inputs.as_slice().is_empty() {
+        drop(inputs);
+        drop(catalog);
+        drop(output);
+        return Err(bad(at, WordKind::MissingOption));
+    }
+    match plain_output(output) {
+        Ok(first) => Ok(Chain {
+            inputs,
+            catalog,
+            first,
+            steps: Items::from_vec(Vec::new(alloc)),
+        }),
+        Err(fault) => {
+            drop(inputs);
+            drop(catalog);
+            Err(fault)
+        }
+    }
+}
+
+/// The chain with one more step.
+fn with_step(chain: Chain, step: (Step, Option<Output>)) -> Result<Chain, NoMemory>
+    ensures { IfOk result (λ longer. longer ≡ record chain { steps = chain.steps ++ step ∷ [] }) }
+{
+    let Chain {
+        inputs,
+        catalog,
+        first,
+        steps,
+    } = chain;
+    match pushed(steps, step) {
+        Ok(steps) => Ok(Chain {
+            inputs,
+            catalog,
+            first,
+            steps,
+        }),
+        Err(NoMemory) => {
+            drop(inputs);
+            drop(catalog);
+            drop(first);
+            Err(NoMemory)
+        }
+    }
+}
+
+/// The chain with this later step.
+pub fn followed(chain: Chain, command: StepWord, at: u32, given: Given) -> Result<Chain, WordFault>
+    ensures { Answers (followed chain command at given) result }
+{
+    match step_of(command, at, given) {
         Err(fault) => {
             drop(chain);
             Err(fault)
         }
+        Ok(step) => match with_step(chain, step) {
+            Ok(longer) => Ok(longer),
+            Err(NoMemory) => Err(WordFault::NoMemory),
+        },
     }
 }

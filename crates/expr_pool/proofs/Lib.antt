@@ -3,3 +3,4 @@ pub mod PartLemmas
 pub mod PoolLemmas
 pub mod ProperLemmas
 pub mod SameCell
+pub mod VisitLemmas

@@ -5,10 +5,11 @@ use Rattle.owl_axioms.specs.declared.expr.ClassExpr.{ClassExpr}
 use Rattle.owl_axioms.specs.declared.expr.ClassExpr.TheOpen.{ClassExpr-F}
 use Rattle.owl_axioms.specs.declared.expr.ClassExpr.TheVariants as expr
 use Rattle.owl_axioms.specs.declared.expr.ClassExpr.TheViews.{out-roll-ClassExpr, roll-ClassExpr}
+use Rattle.fact_rows.specs.Member.{In, here, there}
 use Rattle.expr_pool.proofs.Lists.{both, lt_from, none_some}
 use Rattle.expr_pool.proofs.PoolLemmas.{is_before_more}
 use Rattle.expr_pool.specs.Laws.{PartsAreThere}
-use Rattle.expr_pool.specs.Part.{AreBefore, AreClosed, AreMarked, AreReached, AreSound, start, part, In, IsMarked, Keeps, flag_nodes, here, layer_parts, parts_at, parts_of, there}
+use Rattle.expr_pool.specs.Part.{AreBefore, AreClosed, AreMarked, AreReached, AreSound, start, part, IsMarked, Keeps, flag_nodes, layer_parts, parts_at, parts_of}
 use Rattle.expr_pool.specs.Pool.{is_before, nodes_of, tree_at, tree_of}
 use Rattle.expr_pool.specs.declared.cell.Cell.{Cell}
 use Rattle.expr_pool.specs.declared.cell.Cell.TheVariants as cell
@@ -20,7 +21,7 @@ in_none : {A : Type 0} (x : A) → In x [] → ⊥
 in_none x i = elim i [ ]
 
 -- each member of a mapped list comes from a member
-in_map : {A B : Type 0} (f : A → B) (xs : List A) (y : B) → In y (map f xs) → (x : A) × In x xs × (f x ≡ y)
+pub in_map : {A B : Type 0} (f : A → B) (xs : List A) (y : B) → In y (map f xs) → (x : A) × In x xs × (f x ≡ y)
 in_map f [] y i = absurd (in_none y i)
 in_map f (x ∷ xs) _ here = (x, here, refl)
 in_map f (x ∷ xs) y (there i) = let r = in_map f xs y i in (r.0, there r.1, r.2)
@@ -75,14 +76,14 @@ pub flag_long : (ns : List Node) (fs : List Bool) → length (flag_nodes fs ns) 
 flag_long [] fs = refl
 flag_long (n ∷ ns) fs = flag_long ns (slice_set fs n.place true) ∙ set_long fs n.place
 
-flag_marks : (ns : List Node) (fs : List Bool) (m : ℕ) (n : Node) → length fs ≡ m → AreBefore m ns → In n ns → IsMarked (flag_nodes fs ns) n.place
+pub flag_marks : (ns : List Node) (fs : List Bool) (m : ℕ) (n : Node) → length fs ≡ m → AreBefore m ns → In n ns → IsMarked (flag_nodes fs ns) n.place
 flag_marks [] fs m n long before i = absurd (in_none n i)
 flag_marks (n ∷ ns) fs m _ long before here =
     let lt : n.place < m = lt_from n.place m (both _ _ before).0 in
     flag_kept ns (slice_set fs n.place true) n.place (set_marks fs n.place (omega arith))
 flag_marks (k ∷ ns) fs m n long before (there i) = flag_marks ns (slice_set fs k.place true) m n (set_long fs k.place ∙ long) (both _ _ before).1 i
 
-flag_sound : (ns : List Node) (fs : List Bool) (i : ℕ) → IsMarked (flag_nodes fs ns) i → IsMarked fs i ⊎ ((n : Node) × In n ns × (n.place ≡ i))
+pub flag_sound : (ns : List Node) (fs : List Bool) (i : ℕ) → IsMarked (flag_nodes fs ns) i → IsMarked fs i ⊎ ((n : Node) × In n ns × (n.place ≡ i))
 flag_sound [] fs i h = inl h
 flag_sound (n ∷ ns) fs i h = elim (flag_sound ns (slice_set fs n.place true) i h) [
   | inl m ↦ elim (set_sound fs n.place i m) [
@@ -97,7 +98,7 @@ in_mapped f [] x i = absurd (in_none x i)
 in_mapped f (x ∷ xs) _ here = here
 in_mapped f (y ∷ xs) x (there i) = there (in_mapped f xs x i)
 
-all_in : (m : ℕ) (ns : List Node) (n : Node) → AreBefore m ns → In n ns → n.place < m
+pub all_in : (m : ℕ) (ns : List Node) (n : Node) → AreBefore m ns → In n ns → n.place < m
 all_in m [] n before i = absurd (in_none n i)
 all_in m (n ∷ ns) _ before here = lt_from n.place m (both _ _ before).0
 all_in m (k ∷ ns) n before (there i) = all_in m ns n (both _ _ before).1 i

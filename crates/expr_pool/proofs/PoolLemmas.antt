@@ -164,7 +164,7 @@ all_within : (ts : List ClassExpr) (cs : List Cell) → Stands ts cs → list_al
 all_within ts cs s = ordered_within 0 (length ts) cs (let e : length ts ≡ length cs = as_long ts cs s in omega arith) s.1
 
 -- a cell that is not there has a tree that is not there
-fresh : (ts : List ClassExpr) (cs : List Cell) (c : Cell) → Stands ts cs → is_before (length ts) c ≡ true → list_any (same_cell c) cs ≡ false → (i : ℕ) → slice_get ts i ≡ Some (tree_of ts c) → ⊥
+pub fresh : (ts : List ClassExpr) (cs : List Cell) (c : Cell) → Stands ts cs → is_before (length ts) c ≡ true → list_any (same_cell c) cs ≡ false → (i : ℕ) → slice_get ts i ≡ Some (tree_of ts c) → ⊥
 fresh ts cs c s within new i h =
     let d : (d : Cell) × (slice_get cs i ≡ Some d) × (tree_of ts d ≡ tree_of ts c) = get_map (tree_of ts) cs i (tree_of ts c) (ap (λ l. slice_get l i) s.0 ∙ h) in
     let is : d.0 ≡ c = same_tree ts s.2 d.0 c (all_at (is_before (length ts)) cs i d.0 (all_within ts cs s) d.1) within d.2 in
@@ -325,7 +325,7 @@ trees_from_grew : (ts : List ClassExpr) (cs : List Cell) → take (length ts) (t
 trees_from_grew ts [] = grew_same ts
 trees_from_grew ts (c ∷ cs) = grew_more ts (ts ++ tree_of ts c ∷ []) (trees_from (ts ++ tree_of ts c ∷ []) cs) (grew_append ts (tree_of ts c ∷ [])) (trees_from_grew (ts ++ tree_of ts c ∷ []) cs)
 
-length_snoc : {X : Type 0} (xs : List X) (x : X) → length (xs ++ x ∷ []) ≡ length xs + 1
+pub length_snoc : {X : Type 0} (xs : List X) (x : X) → length (xs ++ x ∷ []) ≡ length xs + 1
 length_snoc [] x = refl
 length_snoc (y ∷ xs) x = let e : length (xs ++ x ∷ []) ≡ length xs + 1 = length_snoc xs x in omega arith
 
@@ -376,7 +376,7 @@ stands_take n ts cs le s =
 pub pool_take : (n : ℕ) (cs : List Cell) → n ≤ length cs → IsPool cs → IsPool (take n cs)
 pool_take n cs le pool = to_pool (take n cs) (subst (λ ts. Stands ts (take n cs)) (sym (trees_of_take n cs le)) (stands_take n (trees_of cs) cs le (as_pool cs pool)))
 
-take_next : {X : Type 0} (i : ℕ) (es : List X) (e : X) → slice_get es i ≡ Some e → take (suc i) es ≡ take i es ++ e ∷ []
+pub take_next : {X : Type 0} (i : ℕ) (es : List X) (e : X) → slice_get es i ≡ Some e → take (suc i) es ≡ take i es ++ e ∷ []
 take_next i [] e h = none_some e h
 take_next zero (x ∷ es) e h = ap (λ y. y ∷ []) (some_is h)
 take_next (suc i) (x ∷ es) e h = ap (λ l. x ∷ l) (take_next i es e h)

@@ -4,7 +4,8 @@ use Rattle.owl_axioms.specs.Made.{IsProperExpr}
 use Rattle.owl_axioms.specs.Proper.{rises}
 use Rattle.owl_axioms.specs.Text.{expr_text}
 use Rattle.owl_axioms.specs.declared.expr.ClassExpr.{ClassExpr}
-use Rattle.expr_pool.specs.Part.{In, parts_of}
+use Rattle.fact_rows.specs.Member.{In}
+use Rattle.expr_pool.specs.Part.{Inside, parts_of}
 use Rattle.expr_pool.specs.Pool.{IsBefore, tree_at, tree_of}
 use Rattle.expr_pool.specs.declared.cell.Cell.{Cell}
 use Rattle.expr_pool.specs.declared.cell.Cell.TheVariants as cell
@@ -21,3 +22,7 @@ OperandsRise trees c = (nodes : List Node) → (c ≡ cell.And nodes) ⊎ (c ≡
 -- each part of the tree of a cell at a place has a node before that place
 abbrev pub PartsAreThere : List ClassExpr → ℕ → Cell → Type 0
 PartsAreThere trees at c = at ≤ length trees → IsBefore at c → (part : ClassExpr) → In part (parts_of (tree_of trees c)) → (i : ℕ) × (i < at) × (slice_get trees i ≡ Some part)
+
+-- with each tree of a pool its parts, and theirs, have nodes, not behind its own
+abbrev pub PartsHaveNodes : List ClassExpr → Type 0
+PartsHaveNodes trees = (i : ℕ) (t : ClassExpr) → slice_get trees i ≡ Some t → (p : ClassExpr) → Inside t p → (j : ℕ) × (j ≤ i) × (slice_get trees j ≡ Some p)

@@ -5,6 +5,7 @@ use Rattle.owl_axioms.specs.declared.expr.ClassExpr.{ClassExpr}
 use Rattle.owl_axioms.specs.declared.expr.ClassExpr.TheOpen.{ClassExpr-F}
 use Rattle.owl_axioms.specs.declared.expr.ClassExpr.TheVariants as expr
 use Rattle.owl_axioms.specs.declared.expr.ClassExpr.TheViews.{out-ClassExpr}
+use Rattle.fact_rows.specs.Member.{In}
 use Rattle.expr_pool.specs.declared.cell.Node.{Node}
 
 -- the flags with those of some nodes raised
@@ -18,11 +19,6 @@ AreBefore place nodes = list_all (λ (n : Node). nat_lt n.place place) nodes ≡
 -- the place is marked
 abbrev pub IsMarked : List Bool → ℕ → Type 0
 IsMarked flags i = slice_get flags i ≡ Some true
-
--- x stands in the list
-pub data In {A : Type 0} (x : A) : List A → Type 0 where
-  here : {xs : List A} → In x (x ∷ xs)
-  there : {y : A} {xs : List A} → In x xs → In x (y ∷ xs)
 
 -- the parts of a layer
 unfoldable pub layer_parts : ClassExpr-F ClassExpr → List ClassExpr
@@ -41,6 +37,11 @@ layer_parts (ClassExpr-F.Exact n role part) = part ∷ []
 -- the parts of a tree
 unfoldable pub parts_of : ClassExpr → List ClassExpr
 parts_of tree = layer_parts (out-ClassExpr tree)
+
+-- a tree itself, its parts, and theirs
+pub data Inside (whole : ClassExpr) : ClassExpr → Type 0 where
+  itself : Inside whole whole
+  deeper : {t p : ClassExpr} → Inside whole t → In p (parts_of t) → Inside whole p
 
 -- the parts of the tree in a place
 abbrev pub parts_at : List ClassExpr → ℕ → List ClassExpr

@@ -9,6 +9,6 @@ mod part;
 mod pool;
 
 pub use cell::{Cell, Node};
-pub use laws::{operands_rise, parts_are_there};
+pub use laws::{operands_rise, parts_are_there, parts_have_nodes};
 pub use part::mark_parts;
 pub use pool::Pool;

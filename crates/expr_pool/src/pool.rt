@@ -1,5 +1,6 @@
 //! `Pool`: each tree once, with one look-up a node.
 ghost use Rattle.std.specs.Prelude.{◌≡◌, ◌<◌, ◌≤◌, ◌↔◌, [], Some, IsTrue, IfOk, length, slice_get, take};
+ghost use Rattle.expr_pool.specs.Interned.{AddsInside, HasNode, IsLastOrKnown};
 ghost use Rattle.expr_pool.specs.Pool.{AreDifferent, Grew, IsBefore, tree_at, tree_of};
 
 use crate::intern::node_of_tree;
@@ -14,7 +15,7 @@ use std::marker::Model;
 #[derive(Drop)]
 pub struct Pool {
     alloc: Global,
-    cells: IndexSet<Cell>,
+    pub(crate) cells: IndexSet<Cell>,
 }
 
 impl Model for Pool {
@@ -44,10 +45,14 @@ impl Pool {
         })
     }
 
-    /// The node of a tree: the one that is there, or a new one behind all others, with nodes for its parts before it. It
-    /// takes time in proportion to the tree. After `NoMemory` some of its parts may have nodes.
+    /// The node of a tree: the one that is there, and then the pool is as it was; or a new one behind all others, with
+    /// new nodes for those of its parts that had none before it, and for nothing else. It takes time in proportion to
+    /// the tree. After `NoMemory` some of its parts may have nodes.
     pub fn intern(&mut self, tree: &ClassExpr) -> Result<Node, NoMemory>
         ensures kept { Grew self.old self.new }
+        ensures known { HasNode self.old tree.now → self.new ≡ self.old }
+        ensures last { IfOk result (λ n. IsLastOrKnown self.old self.new n.place) }
+        ensures only { AddsInside self.old tree.now self.new }
         ensures node { IfOk result (λ n. slice_get self.new n.place ≡ Some tree.now) }
     {
         node_of_tree(self.alloc, &mut self.cells, tree)

@@ -31,7 +31,7 @@ sides_rise a is =
     (parts.0, Rises-from_test side_text a.sides (and_parts (rises (map side_text a.sides)) (list_all is_proper_side a.sides) parts.1).0)
 
 -- no name, or one
-one_space : (name : Option (List ℕ)) → first_part (sorted_by (λ (t : List ℕ). t) (option_to_list name)) ≡ name
+pub one_space : (name : Option (List ℕ)) → first_part (sorted_by (λ (t : List ℕ). t) (option_to_list name)) ≡ name
 unfolding sorted_on
 one_space None = refl
 one_space (Some name) = refl
@@ -40,10 +40,10 @@ nothing : {X : Type 0} (xs : List X) → ((x : X) → In x xs → ⊥) → SameM
 nothing xs none x = ((λ here. none x here), (λ here. absurd here))
 
 module _ (name : Option (List ℕ)) (O : List Axiom) (is : IsSpellable name O) (told : IsTold (writing_of name) O) where
-  abbrev names : List (List ℕ)
+  abbrev pub names : List (List ℕ)
   names = option_to_list name
 
-  w_is : law.w names [] O ≡ writing_of name
+  pub w_is : law.w names [] O ≡ writing_of name
   w_is = ap (λ n. writing_of n) (one_space name)
 
   -- the facts of the law, in the writing of the name
@@ -53,7 +53,7 @@ module _ (name : Option (List ℕ)) (O : List Axiom) (is : IsSpellable name O) (
       let proper = sides_rise a (is.proper a here) in
       record { clauses = clauses.0; spelled = clauses.1; proper = λ _. proper.0; rises = proper.1 }
 
-  spellable : law.IsSpellable names [] O
+  pub spellable : law.IsSpellable names [] O
   spellable = record {
     normal = is.normal;
     formed = formed_at (law.space names [] O) (ap Rattle.iri_map.specs.Ontology.name_or_temp (one_space name));
@@ -61,10 +61,10 @@ module _ (name : Option (List ℕ)) (O : List Axiom) (is : IsSpellable name O) (
     once = λ x group a b some others here there one other. told.groups x group a b some others here there (ap (λ w. Rattle.obo_statements.specs.Groups.group_spelling w x group a) (sym w_is) ∙ one) (ap (λ w. Rattle.obo_statements.specs.Groups.group_spelling w x group b) (sym w_is) ∙ other);
   }
 
-  nameless : law.IsNameless names [] O
+  pub nameless : law.IsNameless names [] O
   nameless = record { ontology = λ f here. absurd here; metadata = λ f here. absurd here }
 
-  silent : law.IsSilent names [] O spellable nameless
+  pub silent : law.IsSilent names [] O spellable nameless
   silent = record { silent = λ f here. absurd here; apart = λ f group a clauses here. absurd here }
 
   nothing_kept : (tag : List ℕ) → bytes_eq (codes "format-version") tag ≡ false → bytes_eq (codes "ontology") tag ≡ false → (f : Framed) → In f (kept_with (law.D names [] O) tag) → ⊥

@@ -67,7 +67,7 @@ module _ (writing : Writing) (one other : List Name) (same : SameMembers one oth
   group-same : (a : Axiom) (group : Group) → group_spelled writing one a group ≡ group_spelled writing other a group
   group-same a group = λ i. option_and_then (λ (home : Home). option_map (map (framed Rattle.obo_tags.specs.declared.kind.FrameKind.TheVariants.Term home.id)) (group_spelling writing home.entity.iri group a)) (home_of-same i a.body)
 
-  clauses-same : (a : Axiom) → clauses_for writing one a ≡ clauses_for writing other a
+  pub clauses-same : (a : Axiom) → clauses_for writing one a ≡ clauses_for writing other a
   unfolding clauses_for axiom_spelled
   clauses-same a = λ i. option_or (body-same a a.body i) (first_some (λ group. group-same a group i) (intersection ∷ union ∷ []))
 

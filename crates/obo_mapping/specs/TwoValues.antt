@@ -106,7 +106,7 @@ rank Instance = 3
 -- the order: by frame, tag in printed order, value and origin
 abbrev pub given_key : Given → List (List ℕ)
 given_key one =
-    (rank one.frame ∷ []) ∷ one.id ∷ option_to_list (place_of one.frame one.tag) ∷ one.text ∷ (one.origin.file ∷ one.origin.line ∷ []) ∷ []
+    (rank one.frame ∷ []) ∷ one.id ∷ option_to_list (place_of one.frame one.tag) ∷ one.tag ∷ one.text ∷ (one.origin.file ∷ one.origin.line ∷ []) ∷ []
 
 -- two values of one tag of one frame
 abbrev pub clash : Given → Given → Bool

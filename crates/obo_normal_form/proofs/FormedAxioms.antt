@@ -46,7 +46,8 @@ use Rattle.obo_notes.specs.Forms.{first_part}
 use Rattle.obo_notes.specs.Keys.{is_reserved_key, side_of_qualifier}
 use Rattle.obo_notes.specs.Notes.{qualifiers_of, sorted_sides}
 use Rattle.obo_mapping.specs.Sound.{IsSound}
-use Rattle.obo_statements.specs.Classes.{class_id, class_iri, class_named, class_read, is_class}
+use Rattle.owl_axioms.specs.Classes.{class_named}
+use Rattle.obo_statements.specs.Classes.{class_id, class_iri, class_read, is_class}
 use Rattle.obo_statements.specs.Restrictions.{restriction, restriction_words}
 use Rattle.obo_statements.specs.Values.{Statement, stated_plainly, value_plainly}
 use Rattle.obo_statements.specs.Statements.{StatementRow, statement_in, statement_spelling, statements_of}

@@ -36,7 +36,8 @@ use Rattle.obo_mapping.specs.Axioms.{name_as}
 use Rattle.obo_notes.specs.Context.{Agree, Reading, Writing, where_true}
 use Rattle.obo_notes.specs.Keys.{is_reserved_key, qualifier_of, side_of_qualifier}
 use Rattle.obo_notes.specs.Notes.{qualifiers_of, sorted_sides}
-use Rattle.obo_statements.specs.Classes.{class_id, class_iri, class_named, class_read, is_class}
+use Rattle.owl_axioms.specs.Classes.{class_named}
+use Rattle.obo_statements.specs.Classes.{class_id, class_iri, class_read, is_class}
 use Rattle.obo_statements.specs.Restrictions.{restriction, restriction_words, words_of}
 use Rattle.obo_statements.specs.Values.{Character, Statement, asymmetric, disjoint_classes, functional, inverse_functional, other_class, other_of, pair_of, reflexive, same_classes, stated_plainly, symmetric, transitive, value_plainly}
 use Rattle.obo_statements.specs.Anchors.{anchors, class_anchor, class_entity}

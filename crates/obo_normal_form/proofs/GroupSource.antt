@@ -30,7 +30,8 @@ use Rattle.obo_mapping.specs.Documents.{group_in, group_of, is_untranslatable, o
 use Rattle.obo_notes.specs.Keys.{side_of_qualifier}
 use Rattle.obo_notes.specs.Notes.{qualifiers_of, sorted_sides}
 use Rattle.obo_statements.proofs.PlainMeaning.{grouped_plainly}
-use Rattle.obo_statements.specs.Classes.{class_named, is_class}
+use Rattle.owl_axioms.specs.Classes.{class_named}
+use Rattle.obo_statements.specs.Classes.{is_class}
 use Rattle.obo_statements.specs.Values.{Character, Statement, asymmetric, functional, inverse_functional, pair_of, reflexive, stated_plainly, symmetric, transitive}
 use Rattle.obo_statements.specs.Groups.{Group, clauses_with, expr_pair, group_clauses, group_expr, group_in_body, group_meaning, group_operands, group_spelling, intersection, operand_plainly, operand_value, other_expr, union}
 use Rattle.obo_statements.proofs.GroupLaws.{class_named-text, group_is_no_class, whole_of}

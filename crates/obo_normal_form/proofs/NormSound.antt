@@ -59,7 +59,7 @@ use Rattle.obo_notes.proofs.XrefLists.{all_from_in}
 
 -- ---- names that are normal can be written
 
-readable_name : (v : List ℕ) → is_readable (normalised v) ≡ true
+pub readable_name : (v : List ℕ) → is_readable (normalised v) ≡ true
 readable_name v =
     let iri = ontology_iri v in
     ⊎_elim
@@ -156,7 +156,7 @@ module _ (reading : Reading) (writing : Writing) (agree : Agree reading writing)
 
 -- ---- the header and the clauses of declarations
 
-format_fits : Fits Header false law.format_clause.clause
+pub format_fits : Fits Header false law.format_clause.clause
 unfolding tags_of shape_of
 format_fits = record {
   some = omega arith;
@@ -165,7 +165,7 @@ format_fits = record {
   qualifiers = All-nil FitsQualifier;
 }
 
-name_fits : (name : List ℕ) → IsWordText name → Fits Header false (law.name_clause name).clause
+pub name_fits : (name : List ℕ) → IsWordText name → Fits Header false (law.name_clause name).clause
 unfolding tags_of shape_of
 name_fits name fits = record {
   some = omega arith;
@@ -174,7 +174,7 @@ name_fits name fits = record {
   qualifiers = All-nil FitsQualifier;
 }
 
-metadata_fits : Fits Typedef false metadata_clause
+pub metadata_fits : Fits Typedef false metadata_clause
 unfolding tags_of shape_of
 metadata_fits = record {
   some = omega arith;
@@ -183,14 +183,14 @@ metadata_fits = record {
   qualifiers = All-nil FitsQualifier;
 }
 
-id_shape : (kind : Kind) → shape_at (frame_kind kind) true (codes "id") ≡ shapes.Id
+pub id_shape : (kind : Kind) → shape_at (frame_kind kind) true (codes "id") ≡ shapes.Id
 unfolding tags_of shape_of
 id_shape kinds.Class = refl
 id_shape kinds.Role = refl
 id_shape kinds.Individual = refl
 id_shape kinds.AnnotationProperty = refl
 
-id_fits : (kind : Kind) (id : List ℕ) → IsWordText id → Fits (frame_kind kind) true (id_clause id)
+pub id_fits : (kind : Kind) (id : List ℕ) → IsWordText id → Fits (frame_kind kind) true (id_clause id)
 id_fits kind id fits = record {
   some = omega arith;
   each = AllPass-from_list_all is_tag_byte (codes "id") refl;
@@ -198,7 +198,7 @@ id_fits kind id fits = record {
   qualifiers = subst (λ s. FitBehind s []) (sym (id_shape kind)) (All-nil FitsQualifier);
 }
 
-frame_id_word : (space : List ℕ) (name : Name) (id : List ℕ) → frame_id (writing_in space) name ≡ Some id → IsWordText id
+pub frame_id_word : (space : List ℕ) (name : Name) (id : List ℕ) → frame_id (writing_in space) name ≡ Some id → IsWordText id
 frame_id_word space name id is = by_kind name.kind is
   where
     by_kind : (kind : Kind) → frame_id (writing_in space) (name_as kind name.iri) ≡ Some id → IsWordText id
@@ -207,10 +207,10 @@ frame_id_word space name id is = by_kind name.kind is
     by_kind kinds.Individual is = word_from_readable id ((Agree-in space).ids name.iri id is).0
     by_kind kinds.AnnotationProperty is = word_from_readable id ((Agree-in space).ids name.iri id is).0
 
-plain_first : (f : Framed) → bytes_eq f.clause.tag (codes "id") ≡ false → Fits f.frame false f.clause → Fits f.frame (has_tag (codes "id") f && not (is_raw f.clause.value)) f.clause
+pub plain_first : (f : Framed) → bytes_eq f.clause.tag (codes "id") ≡ false → Fits f.frame false f.clause → Fits f.frame (has_tag (codes "id") f && not (is_raw f.clause.value)) f.clause
 plain_first f no_id fits = subst (λ b. Fits f.frame b f.clause) (sym (λ i. no_id i && not (is_raw f.clause.value))) fits
 
-no_id_group : (g : Rattle.obo_statements.specs.Groups.Group) → bytes_eq (Rattle.obo_statements.specs.Groups.group_tag g) (codes "id") ≡ false
+pub no_id_group : (g : Rattle.obo_statements.specs.Groups.Group) → bytes_eq (Rattle.obo_statements.specs.Groups.group_tag g) (codes "id") ≡ false
 no_id_group Rattle.obo_statements.specs.Groups.intersection = refl
 no_id_group Rattle.obo_statements.specs.Groups.union = refl
 

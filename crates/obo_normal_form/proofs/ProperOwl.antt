@@ -41,7 +41,7 @@ use Rattle.obo_notes.specs.declared.note.Note.{Note}
 use Rattle.obo_notes.specs.Keys.{side_of_qualifier}
 use Rattle.obo_notes.specs.Notes.{Row, form_in, form_of, meaning, rows, sorted_sides, with_qualifiers}
 use Rattle.obo_mapping.specs.Sound.{IsSound}
-use Rattle.obo_statements.specs.Classes.{class_named}
+use Rattle.owl_axioms.specs.Classes.{class_named}
 use Rattle.obo_statements.specs.Groups.{Group, expr_pair, group_expr, group_meaning, operand_plainly}
 use Rattle.obo_notes.specs.Vocabulary.{iao_definition, iao_replaced_by, obo_in_owl, owl_deprecated, rdfs_comment, xsd, xsd_boolean, xsd_string}
 use Rattle.obo_statements.proofs.PlainMeaning.{grouped_plainly}

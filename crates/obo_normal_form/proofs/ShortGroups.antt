@@ -38,7 +38,7 @@ use Rattle.obo_statements.specs.Groups.{group_spelling}
 use Rattle.obo_mapping.specs.Documents.{group_in, group_of, group_said, group_with, has_tag, header_with, is_header, is_raw, is_term, is_untranslatable, kept, names_in, norm, owl, situation_of, spelled}
 use Rattle.obo_normal_form.specs.NormLaws.{NormIsSound}
 use Rattle.obo_mapping.specs.Sound.{IsFramed, IsSound}
-use Rattle.obo_statements.specs.Classes.{class_named}
+use Rattle.owl_axioms.specs.Classes.{class_named}
 use Rattle.obo_statements.specs.Groups.{Group, expr_pair, group_expr, group_meaning, group_tag, intersection, operand_plainly, union}
 use Rattle.obo_statements.proofs.PlainMeaning.{grouped_plainly}
 use Rattle.obo_mapping.proofs.DocumentLaw as law
@@ -73,7 +73,7 @@ length_map : {X Y : Type 0} (f : X → Y) (xs : List X) → length (map f xs) �
 length_map f [] = refl
 length_map f (x ∷ xs) = ap suc (length_map f xs)
 
-same_length : {X : Type 0} (text : X → List ℕ) (xs ys : List X) → SameMembers xs ys → length (sorted_by text xs) ≡ length (sorted_by text ys)
+pub same_length : {X : Type 0} (text : X → List ℕ) (xs ys : List X) → SameMembers xs ys → length (sorted_by text xs) ≡ length (sorted_by text ys)
 same_length text xs ys same =
     let texts : SameMembers (map text xs) (map text ys) = λ t. (
       (λ here. let x = In-from_map text t xs here in subst (λ u. In u (map text ys)) x.2 (In-map text x.0 ys ((same x.0).0 x.1))),
@@ -114,7 +114,7 @@ pair_two c g es is =
 pair_states : (c e : ClassExpr) → IsStatement (expr_pair c e)
 pair_states c e = ⊎_elim (λ yes. subst IsStatement (sym (cond-true _ (body.Equiv c e) (body.Equiv e c) yes)) tt) (λ isnt. subst IsStatement (sym (cond-false _ (body.Equiv c e) (body.Equiv e c) isnt)) tt) (cases_Bool (in_order (expr_text c) (expr_text e)))
 
-meaning_two : (reading : Reading) (x : List ℕ) (g : Group) (clauses : List Clause) (a : Axiom) (operands : List ClassExpr) → (IsStatement a.body → is_proper_body a.body ≡ true)
+pub meaning_two : (reading : Reading) (x : List ℕ) (g : Group) (clauses : List Clause) (a : Axiom) (operands : List ClassExpr) → (IsStatement a.body → is_proper_body a.body ≡ true)
     → group_meaning reading x g clauses ≡ Some a → each_some (λ (clause : Clause). operand_plainly reading g clause.value) clauses ≡ Some operands → 2 ≤ length (sorted_by expr_text operands)
 meaning_two reading x g clauses a operands proper is found =
     let made = option_map_some _ (each_some (λ (clause : Clause). operand_plainly reading g clause.value) clauses) a (grouped_plainly reading x g clauses a is) in

@@ -19,7 +19,8 @@ mod texts;
 mod vocabulary;
 
 pub use clause::clause_of;
-pub use keys::{is_reserved_key, qualifier_of, side_of_qualifier};
+pub use datatypes::{datatype_iri, datatype_word};
+pub use keys::{is_reserved_key, key_of, key_property, qualifier_of, side_of_qualifier};
 pub use laws::{
     each_note_has_clause, note_reads_back, spelled_notes_are_in_order, spelled_notes_fit,
 };

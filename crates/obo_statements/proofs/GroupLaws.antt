@@ -43,7 +43,8 @@ use Rattle.rel_io.proofs.Texts.{word_from_readable}
 use Rattle.text_sets.proofs.PartLemmas.{each_some-items, each_some-parts, each_some-some, option_and_then_some, option_map_some, option_or_some}
 use Rattle.text_sets.proofs.SortedLemmas.{by_text_total, sorted_by-each, sorted_by-is, sorted_by-only}
 use Rattle.obo_notes.specs.Context.{Agree, Reading, Writing}
-use Rattle.obo_statements.specs.Classes.{as_id, class_id, class_named, class_read, is_class}
+use Rattle.owl_axioms.specs.Classes.{class_named}
+use Rattle.obo_statements.specs.Classes.{as_id, class_id, class_read, is_class}
 use Rattle.obo_statements.specs.Restrictions.{restriction_words}
 use Rattle.obo_statements.specs.Groups.{Group, clauses_with, expr_pair, group_clauses, group_expr, group_in_body, group_operands, group_tag, intersection, operand_plainly, operand_value, operands_in, other_expr, union}
 use Rattle.obo_statements.proofs.PlainMeaning.{plain_group}
@@ -141,6 +142,14 @@ module _ (reading : Reading) (writing : Writing) (agree : Agree reading writing)
       read_more : (vs : List Value) → each_some (λ (clause : Clause). operand_plainly reading group clause.value) (map (λ w. let c : Clause = record { tag = group_tag group; value = w; qualifiers = [] } in c) vs) ≡ each_some (operand_plainly reading group) vs
       read_more [] = refl
       read_more (w ∷ vs) = ap (λ o. option_and_then (λ y. option_map (λ ys. y ∷ ys) o) (operand_plainly reading group w)) (read_more vs)
+
+  -- the values of operands are told by what is printed of them
+  pub told_values : (operands : List ClassExpr) (values : List Value) → each_some (operand_value writing group) operands ≡ Some values → AreTold value_text values
+  told_values operands values is = λ v w p q same.
+      let back = operand-back group id_value-back in
+      let a = each_some-parts (operand_value writing group) operands values is v p in
+      let b = each_some-parts (operand_value writing group) operands values is w q in
+      same_operand v w (back a.0 v a.2).1 (back b.0 w b.2).1 same
 
   -- the operands are read, in some order
   pub operands_read : (operands : List ClassExpr) (values : List Value) → each_some (operand_value writing group) operands ≡ Some values

@@ -1,8 +1,12 @@
+pub mod GroupClauses
 pub mod GroupLaws
 pub mod GroupsBack
+pub mod MeaningLoops
+pub mod MeaningTexts
 pub mod PlainMeaning
 pub mod PrintedLists
 pub mod Rising
 pub mod SpelledFits
 pub mod StatementLaws
 pub mod StatementsBack
+pub mod TaggedLemmas

@@ -22,7 +22,7 @@ use Rattle.obo_notes.specs.Context.{Reading, Writing}
 use Rattle.obo_notes.specs.Keys.{is_reserved_key, key_of, plain_text, qualifier_of, side_of_qualifier}
 use Rattle.obo_notes.specs.Notes.{qualifiers_of, sorted_sides}
 use Rattle.obo_notes.proofs.KeyLemmas.{key_of-back}
-use Rattle.obo_statements.specs.Classes.{class_named}
+use Rattle.owl_axioms.specs.Classes.{class_named}
 use Rattle.obo_statements.specs.Extras.{Worded, annotations_of, extras_of, worded_plainly}
 use Rattle.obo_statements.specs.Values.{stated, stated_plainly, value_plainly, value_stating}
 use Rattle.obo_statements.specs.Statements.{StatementRow, statement_by, statement_in, statement_meaning, statement_spelling, statements_of}

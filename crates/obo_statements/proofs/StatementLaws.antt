@@ -25,7 +25,8 @@ use Rattle.owl_axioms.specs.declared.expr.ClassExpr.TheFolds.{fold-roll-ClassExp
 use Rattle.owl_axioms.specs.declared.expr.ClassExpr.TheViews.{out-ClassExpr, roll-ClassExpr, roll-out-ClassExpr}
 use Rattle.text_sets.proofs.PartLemmas.{option_and_then_some, option_map_some}
 use Rattle.obo_notes.specs.Context.{Agree, Reading, Writing, where_true}
-use Rattle.obo_statements.specs.Classes.{as_id, class_id, class_iri, class_named, class_read, is_class}
+use Rattle.owl_axioms.specs.Classes.{class_named}
+use Rattle.obo_statements.specs.Classes.{as_id, class_id, class_iri, class_read, is_class}
 use Rattle.obo_statements.specs.Restrictions.{restriction, restriction_words, words_of}
 use Rattle.obo_statements.specs.Values.{Character, Statement, asymmetric, below_class, below_role, chain, character_body, disjoint_class, disjoint_classes, disjoint_role, functional, has_character, has_domain, has_range, inverse_functional, inverse_role, member, other_class, other_of, over, pair_of, reflexive, related, restricted, same_class, same_classes, same_role, stated_plainly, symmetric, transitive, value_plainly}
 use Rattle.obo_notes.proofs.Guards.{same_bytes, where_true_some}

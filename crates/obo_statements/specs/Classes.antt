@@ -1,20 +1,16 @@
 -- Classes by their ids: the class that an id names, and the id of a class. (OBO Flat File Format 1.4, its mapping to OWL 2;
 -- owl:Thing and owl:Nothing are classes of the OWL 2 Structural Specification.)
-use Rattle.std.specs.Prelude.{ℕ, Bool, false, List, if◌then◌else◌, Option, None, Some}
+use Rattle.std.specs.Prelude.{ℕ, Bool, false, List, Option, None, Some}
 use Rattle.std.specs.Option.{option_and_then, option_map, option_map_or}
 use Rattle.std.specs.Str.{bytes_eq}
 use Rattle.obo_clause.specs.declared.clause.Value.{Value}
 use Rattle.obo_clause.specs.declared.clause.Value.TheVariants as value
+use Rattle.owl_axioms.specs.Classes.{class_named}
 use Rattle.owl_axioms.specs.Proper.{is_class_iri}
 use Rattle.owl_axioms.specs.Vocabulary.{owl_nothing, owl_thing}
 use Rattle.owl_axioms.specs.declared.expr.ClassExpr.{ClassExpr}
 use Rattle.owl_axioms.specs.declared.expr.ClassExpr.TheVariants as expr
 use Rattle.obo_notes.specs.Context.{Reading, Writing, where_true}
-
--- the class with this IRI
-unfoldable pub class_named : List ℕ → ClassExpr
-class_named iri =
-    if bytes_eq iri owl_thing then expr.Thing else (if bytes_eq iri owl_nothing then expr.Nothing else expr.Class iri)
 
 -- the IRI of a class, where the expression is one
 unfoldable pub class_iri : ClassExpr → Option (List ℕ)

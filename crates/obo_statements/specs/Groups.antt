@@ -22,13 +22,21 @@ use Rattle.text_sets.specs.Parts.{each_some}
 use Rattle.text_sets.specs.Sorted.{sorted_by}
 use Rattle.obo_notes.specs.Context.{Reading, Writing, where_true}
 use Rattle.obo_notes.specs.Notes.{qualifiers_of, sorted_sides}
-use Rattle.obo_statements.specs.Classes.{as_id, class_id, class_named, class_read, is_class}
+use Rattle.owl_axioms.specs.Classes.{class_named}
+use Rattle.obo_statements.specs.Classes.{as_id, class_id, class_read, is_class}
+use Rattle.obo_statements.specs.declared.group.Group as program
+use Rattle.obo_statements.specs.declared.group.Group.TheVariants as groups
 use Rattle.obo_statements.specs.Restrictions.{restriction, restriction_words}
 use Rattle.obo_statements.specs.Extras.{annotations_of, extras_of}
 
 -- the two groups of a Term
 pub data Group : Type 0 where
   intersection union : Group
+
+-- the group that the program's stands for
+abbrev pub group_meant : program.Group → Group
+group_meant groups.Intersection = intersection
+group_meant groups.Union = union
 
 abbrev pub group_tag : Group → List ℕ
 group_tag intersection = codes "intersection_of"

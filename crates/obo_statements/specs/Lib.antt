@@ -6,3 +6,4 @@ pub mod Laws
 pub mod Restrictions
 pub mod Statements
 pub mod Values
+pub mod inner

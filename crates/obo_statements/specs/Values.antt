@@ -12,7 +12,8 @@ use Rattle.owl_axioms.specs.declared.body.Body.{Body}
 use Rattle.owl_axioms.specs.declared.body.Body.TheVariants as body
 use Rattle.owl_axioms.specs.declared.expr.ClassExpr.{ClassExpr}
 use Rattle.obo_notes.specs.Context.{Reading, Writing, where_true}
-use Rattle.obo_statements.specs.Classes.{as_id, class_id, class_iri, class_named, class_read, is_class}
+use Rattle.owl_axioms.specs.Classes.{class_named}
+use Rattle.obo_statements.specs.Classes.{as_id, class_id, class_iri, class_read, is_class}
 use Rattle.obo_statements.specs.Restrictions.{restriction, restriction_words}
 use Rattle.obo_statements.specs.Extras.{Worded, worded_plainly}
 

@@ -2,5 +2,6 @@
 mod ground;
 mod ontologies;
 mod real_files;
+mod reports;
 mod runs;
 mod words;

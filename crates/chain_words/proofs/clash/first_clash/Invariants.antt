@@ -3,4 +3,4 @@ use Rattle.chain_words.specs.Clash.{clash_from, first_clash}
 use Rattle.chain_words.proofs.clash.first_clash.Given as goal
 
 abbrev pub invariant-loop-index : goal.invariant-loop-index
-invariant-loop-index l = clash_from l.settings (take l.index l.settings) (drop l.index l.settings) ≡ first_clash l.settings
+invariant-loop-index l = clash_from l.chain (take l.index l.outputs) (drop l.index l.outputs) ≡ first_clash l.chain l.outputs

@@ -1,12 +1,7 @@
-use Rattle.std.proofs.Common.{◌+◌, length, nat_le, ◌∙◌}
-use Rattle.chain_words.specs.Scan.{most_commands, stands_first}
-use Rattle.chain_words.proofs.ReadLemmas.{misplaced_bad, placed_begins}
+use Rattle.std.proofs.Common.{ap, sym}
+use Rattle.chain_words.specs.Draft.{step_begun}
 use Rattle.chain_words.proofs.draft.begun.Goals as goal
 
-pub returns-in-Some : goal.returns-in-Some
-returns-in-Some c =
-    rw c.bad.ensures (misplaced_bad (stands_first c.args.command) (nat_le most_commands (length c.args.chain.steps + 1)) _ c.args.at c.in-Some.kind (rw c.as_slice.ensures at c.in-Some.ensures))
-
-pub returns : goal.returns
-returns c =
-    rw (c.from_vec.ensures ∙ c.new.ensures.items) (placed_begins (stands_first c.args.command) (nat_le most_commands (length c.args.chain.steps + 1)) _ c.args.at (rw c.as_slice.ensures at c.in_default.ensures))
+pub returns-in-Ok : goal.returns-in-Ok
+returns-in-Ok c =
+    rw c.nothing.ensures (ap (λ told. step_begun c.args.outputs told c.args.at c.args.chain) (sym (rw c.as_slice.ensures at c.in-Ok.ensures)))

@@ -1,6 +1,6 @@
 use Rattle.std.proofs.Common.{map}
 use Rattle.std.specs.String.{string_bytes}
-use Rattle.chain_words.proofs.Apart.{begins_with_merge}
+use Rattle.chain_words.proofs.Front.{begins_with_merge}
 use Rattle.chain_words.proofs.laws.merge_is_first.Goals as goal
 
 pub returns : goal.returns

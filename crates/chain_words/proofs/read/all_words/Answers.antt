@@ -1,6 +1,6 @@
 use Rattle.std.proofs.Common.{◌≡◌, sym, ap, ◌∙◌}
 use Rattle.std.specs.String.{string_bytes}
-use Rattle.chain_words.specs.Scan.{command_of}
+use Rattle.chain_words.specs.Table.{command_of}
 use Rattle.chain_words.proofs.ReadLemmas.{first_begins}
 use Rattle.chain_words.proofs.read.all_words.Goals as goal
 

@@ -1,7 +1,6 @@
 use Rattle.std.proofs.Common.{◌≡◌, drop, map}
 use Rattle.std.specs.String.{string_bytes}
-use Rattle.chain_words.specs.Scan.{scan}
-use Rattle.chain_words.specs.Chain.{at_merge}
+use Rattle.chain_words.specs.Read.{at_merge, scan}
 use Rattle.chain_words.proofs.read.scanned.Given as goal
 
 abbrev pub invariant-loop-index : goal.invariant-loop-index

@@ -1,0 +1,9 @@
+pub mod ClassLemmas
+pub mod Counting
+pub mod Layers
+pub mod OccurLemmas
+pub mod PartLemmas
+pub mod Parts
+pub mod ReachLemmas
+pub mod RootLemmas
+pub mod Standing

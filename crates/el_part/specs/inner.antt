@@ -1,0 +1,3 @@
+pub mod ClassMap
+pub mod Made
+pub mod Reached

@@ -1,0 +1,4 @@
+pub mod ClauseLemmas
+pub mod DeclaredLemmas
+pub mod HomeLemmas
+pub mod OntologyLemmas
