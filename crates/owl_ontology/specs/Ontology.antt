@@ -1,6 +1,6 @@
 -- An ontology as a contract sees it: its name, and its axioms in the order in which they came, each once and with its
 -- least origin. (Own; an ontology as a set of axioms: OWL 2 Structural Specification and Functional-Style Syntax.)
-use Rattle.std.specs.Prelude.{ℕ, Bool, false, if◌then◌else◌, List, [], ◌∷◌, Option, Contains, map}
+use Rattle.std.specs.Prelude.{ℕ, Bool, false, if◌then◌else◌, List, [], ◌∷◌, Option, None, Some, Contains, map}
 use Rattle.std.specs.List.{IsDistinct}
 use Rattle.owl_ontology.specs.Origins.{lesser}
 use Rattle.owl_axioms.specs.Same.{same_axiom}
@@ -45,6 +45,11 @@ add_entry a origin (e ∷ entries) =
 abbrev pub add_entries : List Entry → List Entry → List Entry
 add_entries held [] = held
 add_entries held (entry ∷ entries) = add_entries (add_entry entry.axiom entry.origin held) entries
+
+-- the entry that was taken out, if there was one
+abbrev pub taken_out : Option (Axiom × Origin) → List Entry
+taken_out None = []
+taken_out (Some taken) = entry_of taken.0 taken.1 ∷ []
 
 -- the first flag, or false where there is none
 abbrev pub first_flag : List Bool → Bool

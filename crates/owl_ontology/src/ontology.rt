@@ -1,10 +1,10 @@
 //! `Ontology`: a name and a list of proper axioms without repeats, each with its least origin.
-ghost use Rattle.std.specs.Prelude.{◌≡◌, ◌+◌, ◌<◌, ◌↔◌, if◌then◌else◌, is_some, [], Some, IsTrue, IfOk, OnOk, OnErr, drop, length, slice_get};
+ghost use Rattle.std.specs.Prelude.{◌≡◌, ◌+◌, ◌++◌, IsSome, IfSome, ◌<◌, ◌↔◌, if◌then◌else◌, is_some, [], Some, IsTrue, IfOk, OnOk, OnErr, drop, length, slice_get};
 ghost use Rattle.std.specs.Option.{option_copied, option_map_or};
 ghost use Rattle.std.specs.Map.{lookup};
 ghost use Rattle.indexmap.specs.IndexMap.{IsUnchanged, IsUnique, index_map_len, insert_entry};
 ghost use Rattle.owl_axioms.specs.Same.{same_axiom};
-ghost use Rattle.owl_ontology.specs.Ontology.{AreDifferent, IsHeld, add_entry, axioms_of, first_flag, flagged, origins_of};
+ghost use Rattle.owl_ontology.specs.Ontology.{AreDifferent, IsHeld, add_entry, axioms_of, first_flag, flagged, origins_of, taken_out};
 ghost use Rattle.owl_ontology.specs.Origins.{lesser};
 ghost use Rattle.owl_axioms.specs.Proper.{AreProper, IsProper};
 
@@ -123,6 +123,16 @@ impl Ontology {
         ensures { slice_get (origins_of self.now.entries) at ≡ Some result }
     {
         self.axioms[at]
+    }
+
+    /// Takes the last axiom out, with its origin. It takes no memory.
+    pub fn pop(&mut self) -> Option<(Axiom, Origin)>
+        ensures entries { self.old.entries ≡ self.new.entries ++ taken_out result }
+        ensures found { IsSome result ↔ (0 < length self.old.entries) }
+        ensures name { self.new.name ≡ self.old.name }
+        ensures proper { IfSome result (λ taken. IsProper taken.0) }
+    {
+        self.axioms.pop()
     }
 }
 

@@ -1,0 +1,5 @@
+pub mod Catalog
+pub mod Columns
+pub mod Lines
+pub mod Names
+pub mod inner

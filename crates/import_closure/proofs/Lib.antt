@@ -1,0 +1,4 @@
+pub mod ReadLemmas
+pub mod ListLemmas
+pub mod LoadingLemmas
+pub mod TurnLemmas

@@ -1,0 +1,16 @@
+//! The files of a run: the inputs and what they import, each read once, in the order of a list. The names of imports are found
+//! by a catalog. Each file is read whole and is a document, or the first refusal of the list is named. The layer above makes
+//! one ontology of the documents.
+#![tactic(auto)]
+
+mod catalog;
+mod fault;
+mod file;
+mod files;
+mod list;
+mod unread;
+
+pub use fault::LoadFault;
+pub use file::{FileFault, read_file};
+pub use files::{SourceFile, read_files};
+pub use list::Asker;
