@@ -1,0 +1,5 @@
+mod KindLemmas
+mod ListLemmas
+mod OrderLemmas
+mod PartLemmas
+mod PieceLemmas

@@ -1,0 +1,4 @@
+pub mod Kinds
+pub mod Sorted
+pub mod Text
+pub mod inner
