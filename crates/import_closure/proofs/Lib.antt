@@ -1,4 +1,5 @@
 pub mod ReadLemmas
 pub mod ListLemmas
+mod OnceLemmas
 pub mod LoadingLemmas
 pub mod TurnLemmas

@@ -1,5 +1,6 @@
 pub mod Closure
 pub mod Imports
+pub mod Laws
 pub mod List
 pub mod Loading
 pub mod ReadFile

@@ -7,10 +7,12 @@ mod catalog;
 mod fault;
 mod file;
 mod files;
+mod laws;
 mod list;
 mod unread;
 
 pub use fault::LoadFault;
 pub use file::{FileFault, read_file};
 pub use files::{SourceFile, read_files};
+pub use laws::each_is_read_once;
 pub use list::Asker;

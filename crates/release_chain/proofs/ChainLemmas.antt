@@ -19,14 +19,14 @@ use Rattle.term_frames.specs.Text.{obo_text}
 use Rattle.term_frames.specs.declared.fault.TermsFault.{TermsFault}
 use Rattle.term_frames.specs.declared.fault.TermsFault.TheVariants as terms
 use Rattle.release_chain.specs.LineFault.{fault_of_line}
-use Rattle.release_chain.specs.ReadFile.{ReadsFile}
+use Rattle.import_closure.specs.ReadFile.{ReadsFile}
 use Rattle.release_chain.specs.Release.{EndsAs, StoppedAtOutput, WriteFaultCaused}
 use Rattle.release_chain.specs.Run.{Run, after_outputs, byte_limit, fault_in, line_limit, refuses, run, run_bytes, run_chain, run_document, run_input, run_lines, writes}
 use Rattle.release_chain.specs.Words.{Word, chain}
 use Rattle.release_chain.specs.declared.fault.Fault.{Fault}
 use Rattle.release_chain.specs.declared.fault.Fault.TheVariants.{LineNotBuilt, MissingInput, TooManyBytes}
-use Rattle.release_chain.specs.declared.input.FileFault.{FileFault}
-use Rattle.release_chain.specs.declared.input.FileFault.TheVariants as file
+use Rattle.import_closure.specs.declared.file.FileFault.{FileFault}
+use Rattle.import_closure.specs.declared.file.FileFault.TheVariants as file
 use Rattle.release_chain.specs.declared.words.Paths.{Paths}
 
 -- the run of an input that is held and short enough

@@ -9,8 +9,8 @@ use Rattle.release_chain.specs.declared.fault.Fault.{Fault}
 use Rattle.release_chain.specs.declared.fault.Fault.TheVariants.{BadWord, MissingInput, TooManyBytes, NotUtf8, LineTooLong, Syntax, NoId, ShortGroup, LineNotBuilt, ReadFault, WriteFault, NoMemory}
 use Rattle.release_chain.specs.declared.fault.WordKind.{WordKind}
 use Rattle.release_chain.specs.declared.words.Paths.{Paths}
-use Rattle.release_chain.specs.declared.input.FileFault.{FileFault}
-use Rattle.release_chain.specs.declared.input.FileFault.TheVariants as file
+use Rattle.import_closure.specs.declared.file.FileFault.{FileFault}
+use Rattle.import_closure.specs.declared.file.FileFault.TheVariants as file
 
 -- the fault of words that are no chain, or of want of memory where they are one
 abbrev pub RefusesWords : List Word → Fault → Type 0

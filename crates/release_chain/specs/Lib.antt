@@ -2,7 +2,6 @@ pub mod Ending
 pub mod Fault
 pub mod Laws
 pub mod LineFault
-pub mod ReadFile
 pub mod Release
 pub mod Run
 pub mod Words

@@ -6,8 +6,9 @@ ghost use Rattle.release_chain.specs.Ending.{Ends, EndsChain, fault_of_input};
 ghost use Rattle.release_chain.specs.LineFault.{fault_of_line};
 ghost use Rattle.release_chain.specs.Run.{fault_in};
 
+use crate::Fault;
 use crate::words::{Paths, read_words};
-use crate::{Fault, FileFault, read_file};
+use import_closure::{FileFault, read_file};
 use obo_frames::{DocFault, read_document};
 use rel_io::{Bytes, Dup, Folder, PutFault};
 use std::alloc::Global;

@@ -5,12 +5,11 @@
 
 mod chain;
 mod fault;
-mod input;
 mod laws;
 mod program;
 mod words;
 
 pub use fault::{Ended, Fault, WordKind};
-pub use input::{FileFault, read_file};
+pub use import_closure::{FileFault, read_file};
 pub use laws::chains_are_accepted;
 pub use program::release;
