@@ -1,7 +1,7 @@
 use Rattle.std.proofs.Common.{length, ◌-◌}
-use Rattle.catalog_file.specs.inner.Columns.{is_part}
-use Rattle.catalog_file.proofs.ColumnLemmas.{RunsTo}
-use Rattle.catalog_file.proofs.column.column_end.Given as goal
+use Rattle.text_columns.specs.inner.Columns.{is_part}
+use Rattle.text_columns.proofs.ColumnLemmas.{RunsTo}
+use Rattle.text_columns.proofs.column.column_end.Given as goal
 
 abbrev pub invariant-loop-end : goal.invariant-loop-end
 invariant-loop-end l = RunsTo is_part l.text l.end

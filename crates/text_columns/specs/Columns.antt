@@ -1,7 +1,9 @@
 -- The columns of a line: what stands between its blanks, spaces and tabs, before a comment. A `#` opens a comment at the
 -- line's beginning and behind a blank. (Own.)
-use Rattle.std.specs.Prelude.{ℕ, Bool, true, false, ◌==◌, if◌then◌else◌, List, [], ◌∷◌, filter}
+use Rattle.std.specs.Prelude.{◌≡◌, ℕ, Bool, true, false, not, ◌==◌, ◌&&◌, if◌then◌else◌, List, [], ◌∷◌, Option, None, Some, filter, length, nat_lt}
+use Rattle.std.specs.Borrow.{Bor}
 use Rattle.std.specs.List.{slice_split}
+use Rattle.std.specs.Str.{is_utf8}
 use Rattle.obo_lexer.specs.Tokens.{is_blank}
 
 -- the part has a byte
@@ -21,3 +23,12 @@ before_comment (part ∷ parts) = if opens_comment part then [] else part ∷ be
 
 unfoldable pub columns_of : List ℕ → List (List ℕ)
 columns_of line = before_comment (filter is_filled (slice_split is_blank line))
+
+-- the first column and what stands behind it, if there is a column
+abbrev pub IsNextColumn : List ℕ → Option (Bor (List ℕ) × Bor (List ℕ)) → Type 0
+IsNextColumn text None = columns_of text ≡ []
+IsNextColumn text (Some parts) = columns_of text ≡ parts.0.now ∷ columns_of parts.1.now
+
+-- a line that may stand there: UTF-8, and within the limit
+abbrev pub is_plain : ℕ → List ℕ → Bool
+is_plain limit line = is_utf8 line && not (nat_lt limit (length line))

@@ -1,8 +1,8 @@
 use Rattle.std.proofs.Common.{◌+◌, subst, sym, take}
 use Rattle.rel_io.proofs.Lists.{take_rest}
-use Rattle.catalog_file.specs.inner.Reading.{CutsLine}
-use Rattle.catalog_file.proofs.LineLemmas.{cut-none, cut-one}
-use Rattle.catalog_file.proofs.catalog.cut_line.Goals as goal
+use Rattle.text_columns.specs.Lines.{CutsLine}
+use Rattle.text_columns.proofs.LineLemmas.{cut-none, cut-one}
+use Rattle.text_columns.proofs.line.cut_line.Goals as goal
 
 pub returns-in-Some-clause-cut : goal.returns-in-Some-clause-cut
 returns-in-Some-clause-cut c =

@@ -1,17 +1,18 @@
 //! The columns of a line, from left to right.
-ghost use Rattle.std.specs.Prelude.{◌≡◌, ◌≤◌, not, ◌&&◌, length, nat_lt};
+ghost use Rattle.std.specs.Prelude.{◌≡◌, ◌≤◌, length};
 ghost use Rattle.std.specs.List.{prefix_len};
 ghost use Rattle.std.specs.Str.{is_utf8};
 ghost use Rattle.obo_lexer.specs.Tokens.{is_blank};
-ghost use Rattle.catalog_file.specs.inner.Columns.{behind_blanks, is_done, is_part};
-ghost use Rattle.catalog_file.specs.inner.Reading.{IsNextColumn};
+ghost use Rattle.text_columns.specs.Columns.{IsNextColumn, is_plain};
+ghost use Rattle.text_columns.specs.inner.Columns.{behind_blanks, is_done, is_part};
+
 
 /// What opens a comment.
 const COMMENT: u8 = b'#';
 
 /// Whether a line is UTF-8 and within the limit.
 pub fn is_plain(line: &[u8], limit: u32) -> bool
-    ensures { result ≡ (is_utf8 line.now && not (nat_lt limit (length line.now))) }
+    ensures { result ≡ is_plain limit line.now }
 {
     is_utf8(line) && !(line.len() > limit as usize)
 }

@@ -6,8 +6,8 @@ use Rattle.std.proofs.lemmas.Bool.{cases_Bool, false≢true}
 use Rattle.std.proofs.lemmas.List.Splits.{slice_split-cons_yes}
 use Rattle.std.proofs.lemmas.List.Sums.{prefix_len-drop_yes}
 use Rattle.obo_lexer.specs.Tokens.{is_blank}
-use Rattle.catalog_file.specs.Columns.{before_comment, columns_of, is_filled}
-use Rattle.catalog_file.specs.inner.Columns.{behind_blanks, is_done, is_part}
+use Rattle.text_columns.specs.Columns.{before_comment, columns_of, is_filled}
+use Rattle.text_columns.specs.inner.Columns.{behind_blanks, is_done, is_part}
 
 -- ---- runs of bytes
 

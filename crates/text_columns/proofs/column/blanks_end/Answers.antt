@@ -1,7 +1,7 @@
 use Rattle.std.proofs.Common.{sym}
 use Rattle.obo_lexer.specs.Tokens.{is_blank}
-use Rattle.catalog_file.proofs.ColumnLemmas.{runs-begin, runs-on}
-use Rattle.catalog_file.proofs.column.blanks_end.Goals as goal
+use Rattle.text_columns.proofs.ColumnLemmas.{runs-begin, runs-on}
+use Rattle.text_columns.proofs.column.blanks_end.Goals as goal
 
 pub loop-end-init : goal.loop-end-init
 loop-end-init c = runs-begin is_blank c.args.text.now

@@ -1,9 +1,9 @@
 use Rattle.std.proofs.Common.{◌≡◌, ◌∷◌, drop, subst, sym, ap, take, ◌∙◌}
 use Rattle.std.specs.List.{prefix_len}
-use Rattle.catalog_file.specs.Columns.{columns_of}
-use Rattle.catalog_file.specs.inner.Columns.{behind_blanks, is_done, is_part}
-use Rattle.catalog_file.proofs.ColumnLemmas.{StartsPlain, behind-plain, behind-same, none-left, one-more}
-use Rattle.catalog_file.proofs.column.next_column.Goals as goal
+use Rattle.text_columns.specs.Columns.{columns_of}
+use Rattle.text_columns.specs.inner.Columns.{behind_blanks, is_done, is_part}
+use Rattle.text_columns.proofs.ColumnLemmas.{StartsPlain, behind-plain, behind-same, none-left, one-more}
+use Rattle.text_columns.proofs.column.next_column.Goals as goal
 
 pub returns-then-is_done : goal.returns-then-is_done
 returns-then-is_done c =
