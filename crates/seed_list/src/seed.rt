@@ -65,10 +65,10 @@ pub fn read_seed(
     ensures { ReadsSeed ontology.now lines bytes.now result }
 {
     let iris = read_iris(alloc, bytes.as_slice(), ontology, lines)?;
-    if iris.is_empty() {
+    if iris.as_slice().is_empty() {
         return Err(SeedFault::EmptySeed);
     }
-    let seed = seed_of(alloc, iris)?;
+    let seed = seed_of(alloc, iris.into_vec())?;
     Ok(seed)
 }
 

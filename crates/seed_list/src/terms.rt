@@ -7,7 +7,7 @@ ghost use Rattle.seed_list.specs.inner.Reading.{Adds, ReadsIris};
 
 use crate::SeedFault;
 use iri_map::iri_of;
-use rel_io::{Bytes, Iri, Limits};
+use rel_io::{Bytes, Iri, Items, Limits};
 use std::alloc::Global;
 use text_columns::{cut_line, is_plain, next_column, without_return};
 
@@ -17,7 +17,7 @@ pub fn read_iris(
     bytes: &[u8],
     ontology: &Bytes,
     lines: u32,
-) -> Result<Vec<Iri>, SeedFault>
+) -> Result<Items<Iri>, SeedFault>
     requires { length bytes.now + 1 < 2 ^ 32 }
     ensures { ReadsIris ontology.now lines bytes.now result }
 {
@@ -26,11 +26,18 @@ pub fn read_iris(
     let mut number = 1;
     while !left.is_empty() {
         let (line, rest) = cut_line(left);
-        read_line(alloc, &mut iris, without_return(line), ontology, lines, number)?;
+        read_line(
+            alloc,
+            &mut iris,
+            without_return(line),
+            ontology,
+            lines,
+            number,
+        )?;
         left = rest;
         number += 1;
     }
-    Ok(iris)
+    Ok(Items::from_vec(iris))
 }
 
 /// Reads one line behind those before it.

@@ -6,7 +6,6 @@ ghost use Rattle.obo_lexer.specs.Tokens.{is_blank};
 ghost use Rattle.text_columns.specs.Columns.{IsNextColumn, is_plain};
 ghost use Rattle.text_columns.specs.inner.Columns.{behind_blanks, is_done, is_part};
 
-
 /// What opens a comment.
 const COMMENT: u8 = b'#';
 
