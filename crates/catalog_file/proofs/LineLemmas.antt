@@ -1,44 +1,12 @@
--- The lines of a catalog, one after the other, and what they say so far.
+-- What the lines of a catalog say so far.
 use Rattle.std.proofs.Common.{◌≡◌, ℕ, ◌+◌, ◌<◌, ◌≤◌, List, [], ◌∷◌, ◌++◌, Option, Some, None, Result, Ok, Err, length, get_or, take, drop, map, refl, sym, ap, ◌∙◌, arith}
 use Rattle.std.specs.Option.{option_map}
-use Rattle.std.proofs.lemmas.Bool.{eqb-true}
-use Rattle.std.proofs.lemmas.List.{append_assoc, append-nil, drop_more, take-append-drop}
-use Rattle.memchr.specs.Find.{IsFirstByte, is_byte}
-use Rattle.obo_lexer.specs.Lines.{ended_lines, last_line, rest_of, without_return}
-use Rattle.obo_lexer.proofs.LineLemmas.{NoFeed-before, NoFeed-from_none, ended_lines-none, ended_lines-one, rest_of-none, rest_of-one}
+use Rattle.std.proofs.lemmas.List.{append_assoc, append-nil}
+use Rattle.obo_lexer.specs.Lines.{without_return}
 use Rattle.rel_io.proofs.Options.{none_there, same_there}
 use Rattle.catalog_file.specs.Catalog.{catalog_of, line_says, lines_say, with_line}
-use Rattle.catalog_file.specs.Lines.{text_lines}
+use Rattle.text_columns.specs.Lines.{CutsLine, text_lines}
 use Rattle.catalog_file.specs.declared.catalog.CatalogLine.{CatalogLine}
-use Rattle.catalog_file.specs.inner.Reading.{CutsLine}
-
--- ---- the first line
-
--- bytes around their first LF
-around : (bytes : List ℕ) (at : ℕ) → IsFirstByte (is_byte 10) bytes (Some at) → bytes ≡ take at bytes ++ 10 ∷ drop (at + 1) bytes
-around bytes at h =
-    let within : at < length bytes = h.0.high in
-    let byte : get_or bytes at 0 ≡ 10 = eqb-true _ 10 h.1 in
-    sym (take-append-drop at bytes) ∙ ap (λ l. take at bytes ++ l) (drop_more bytes at 0 within ∙ ap (λ b. b ∷ drop (at + 1) bytes) byte)
-
-pub cut-one : (bytes : List ℕ) (at : ℕ) → IsFirstByte (is_byte 10) bytes (Some at) → CutsLine bytes (take at bytes) (drop (at + 1) bytes)
-cut-one bytes at found =
-    let line = take at bytes in
-    let later = drop (at + 1) bytes in
-    let bare = NoFeed-before bytes at found in
-    let whole = around bytes at found in
-    let lines : ended_lines bytes ≡ line ∷ ended_lines later = ap ended_lines whole ∙ ended_lines-one line later bare in
-    let rest : rest_of bytes ≡ rest_of later = ap rest_of whole ∙ rest_of-one line later bare in
-    (λ i. map without_return (lines i ++ last_line (rest i)))
-
-filled-line : (bytes : List ℕ) → 0 < length bytes → last_line bytes ≡ bytes ∷ []
-filled-line [] some = absurd (omega arith)
-filled-line (b ∷ bs) some = refl
-
-pub cut-none : (bytes : List ℕ) → 0 < length bytes → IsFirstByte (is_byte 10) bytes None → CutsLine bytes bytes []
-cut-none bytes some none =
-    let bare = NoFeed-from_none bytes none in
-    (λ i. map without_return (ended_lines-none bytes bare i ++ last_line (rest_of-none bytes bare i))) ∙ ap (map without_return) (filled-line bytes some)
 
 -- ---- what was read so far
 

@@ -1,9 +1,8 @@
 -- A catalog: each line of two columns says in which file an import is found. A line without columns says nothing, and every
 -- other line is refused. All lines, comments too, are UTF-8 and within the limit of a line. (Own.)
-use Rattle.std.specs.Prelude.{◌≡◌, ℕ, ◌+◌, not, ◌&&◌, if◌then◌else◌, List, [], ◌∷◌, ◌++◌, length, nat_lt, Option, None, Some, Result, Ok, Err}
-use Rattle.std.specs.Str.{is_utf8}
-use Rattle.catalog_file.specs.Columns.{columns_of}
-use Rattle.catalog_file.specs.Lines.{text_lines}
+use Rattle.std.specs.Prelude.{◌≡◌, ℕ, ◌+◌, if◌then◌else◌, List, [], ◌∷◌, ◌++◌, Option, None, Some, Result, Ok, Err}
+use Rattle.text_columns.specs.Columns.{columns_of, is_plain}
+use Rattle.text_columns.specs.Lines.{text_lines}
 use Rattle.catalog_file.specs.declared.catalog.CatalogFault.{CatalogFault}
 use Rattle.catalog_file.specs.declared.catalog.CatalogFault.TheVariants.{Refused, NoMemory}
 use Rattle.catalog_file.specs.declared.catalog.CatalogLine.{CatalogLine}
@@ -17,7 +16,7 @@ columns_say (value ∷ name ∷ more ∷ columns) = None
 
 -- what a line says, unless it is refused
 unfoldable pub line_says : ℕ → List ℕ → Option (List CatalogLine)
-line_says limit line = if is_utf8 line && not (nat_lt limit (length line)) then columns_say (columns_of line) else None
+line_says limit line = if is_plain limit line then columns_say (columns_of line) else None
 
 -- a line of this number before others
 abbrev pub with_line : ℕ → Option (List CatalogLine) → Result (List CatalogLine) ℕ → Result (List CatalogLine) ℕ

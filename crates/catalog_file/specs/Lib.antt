@@ -1,5 +1,3 @@
 pub mod Catalog
-pub mod Columns
-pub mod Lines
 pub mod Names
 pub mod inner

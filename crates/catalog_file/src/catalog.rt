@@ -2,20 +2,13 @@
 ghost use Rattle.std.specs.Prelude.{◌≡◌, ◌+◌, ◌^◌, ◌<◌, [], ◌∷◌, length};
 ghost use Rattle.obo_lexer.specs.Lines.{without_return};
 ghost use Rattle.catalog_file.specs.Catalog.{ReadsCatalog, columns_say, line_says};
-ghost use Rattle.catalog_file.specs.Columns.{columns_of};
-ghost use Rattle.catalog_file.specs.inner.Reading.{Adds, CutsLine};
+ghost use Rattle.text_columns.specs.Columns.{columns_of};
+ghost use Rattle.catalog_file.specs.inner.Reading.{Adds};
 ghost use Rattle.catalog_file.specs.declared.catalog.CatalogFault.TheVariants as fault;
 
-use crate::column::{is_plain, next_column};
-use memchr::memchr;
 use rel_io::{Bytes, Dup, Items, NoMemory};
 use std::alloc::{AllocFailed, Global};
-
-/// The byte that ends a line.
-const LINE_FEED: u8 = b'\n';
-
-/// The byte that may stand before the end of a line.
-const RETURN: u8 = b'\r';
+use text_columns::{cut_line, is_plain, next_column, without_return};
 
 /// A line of two columns: imports of the value are found in the file of the name.
 #[derive(PartialEq, Eq, Drop)]
@@ -84,29 +77,6 @@ pub fn read_catalog(
         number += 1;
     }
     Ok(Items::from_vec(lines))
-}
-
-/// The first line, without its LF, and what stands behind it.
-fn cut_line(bytes: &[u8]) -> (&[u8], &[u8])
-    requires { 0 < length bytes.now }
-    ensures cut { CutsLine bytes.now result.0.now result.1.now }
-    ensures shorter { length result.1.now < length bytes.now }
-{
-    match memchr(LINE_FEED, bytes) {
-        Some(at) => (&bytes[..at], &bytes[at + 1..]),
-        None => (bytes, &bytes[..0]),
-    }
-}
-
-/// The line without one CR at its end.
-fn without_return(line: &[u8]) -> &[u8]
-    ensures { result.now ≡ without_return line.now }
-{
-    if line.last() == Some(&RETURN) {
-        &line[..line.len() - 1]
-    } else {
-        line
-    }
 }
 
 /// Reads one line behind those before it.

@@ -3,7 +3,6 @@
 #![tactic(auto)]
 
 mod catalog;
-mod column;
 mod name;
 
 pub use catalog::{CatalogFault, CatalogLine, read_catalog};

@@ -3,3 +3,4 @@ mod ListLemmas
 mod OrderLemmas
 mod PartLemmas
 mod PieceLemmas
+mod SetLemmas

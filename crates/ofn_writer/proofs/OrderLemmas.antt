@@ -8,8 +8,10 @@ use Rattle.std.specs.List.Sorted.{IsSorted}
 use Rattle.std.specs.Ordering.{is_lt, nat_cmp, ordering_reverse}
 use Rattle.std.specs.declared.cmp.Ordering.{Ordering}
 use Rattle.std.specs.declared.cmp.Ordering.TheVariants.{Equal, Greater, Less}
+use Rattle.std.specs.Str.{bytes_eq}
 use Rattle.std.specs.FinMap.{nat_cmp-IsAntisymmetric, slice_cmp-IsAntisymmetric}
 use Rattle.std.proofs.lemmas.List.Sorted.{ranks_by, sorted_far, sum_by-IsPermutation}
+use Rattle.ofn_writer.specs.Laws.{Ascends, times}
 use Rattle.ofn_writer.specs.Sorted.{sorted, with_text}
 use Rattle.ofn_writer.proofs.ListLemmas.{total, total-map, total_is}
 
@@ -19,11 +21,6 @@ below one other = is_lt (slice_cmp nat_cmp one other)
 
 weak : IsStrictWeakOrder below
 weak = ranks_by nat_list_cmp_total (λ t. t)
-
--- no text behind another is below it
-abbrev pub Ascends : List (List ℕ) → Type 0
-Ascends [] = Unit {0}
-Ascends (t ∷ ts) = AllByRecursion (λ u. below u t ≡ false) ts × Ascends ts
 
 -- ---- the definition
 
@@ -64,6 +61,13 @@ pub total-sorted : (f : List ℕ → ℕ) (ts : List (List ℕ)) → total f (so
 unfolding sorted
 total-sorted f [] = refl
 total-sorted f (t ∷ ts) = total-with f t (sorted ts) ∙ ap (λ n. f t + n) (total-sorted f ts)
+
+times_are : (t : List ℕ) (us : List (List ℕ)) → times t us ≡ total (λ u. cond (bytes_eq t u) 1 0) us
+times_are t [] = refl
+times_are t (u ∷ us) = ap (λ n. cond (bytes_eq t u) 1 0 + n) (times_are t us)
+
+pub times-sorted : (t : List ℕ) (us : List (List ℕ)) → times t (sorted us) ≡ times t us
+times-sorted t us = times_are t (sorted us) ∙ total-sorted (λ u. cond (bytes_eq t u) 1 0) us ∙ sym (times_are t us)
 
 -- ---- two lists in order
 

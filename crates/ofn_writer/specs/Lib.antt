@@ -1,4 +1,5 @@
 pub mod Kinds
+pub mod Laws
 pub mod Sorted
 pub mod Text
 pub mod inner

@@ -4,7 +4,9 @@
 
 mod declared;
 mod kind;
+mod laws;
 mod lines;
 mod text;
 
+pub use laws::{lines_are_in_order, texts_go_by_sets};
 pub use text::ofn_text;

@@ -1,0 +1,6 @@
+-- A list is itself, item by item.
+use Rattle.std.proofs.Common.{◌≡◌, List, [], ◌∷◌, ap, map, refl}
+
+pub map_same : {X : Type 0} (xs : List X) → map (λ x. x) xs ≡ xs
+map_same [] = refl
+map_same (x ∷ xs) = ap (λ ys. x ∷ ys) (map_same xs)

@@ -1,0 +1,3 @@
+pub mod Seed
+pub mod Terms
+pub mod inner
