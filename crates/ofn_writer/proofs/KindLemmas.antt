@@ -4,7 +4,6 @@ use Rattle.owl_axioms.specs.Names.{Scope}
 use Rattle.owl_axioms.specs.Signature.{SigState, add_name}
 use Rattle.owl_axioms.specs.declared.name.Kind.{Kind}
 use Rattle.owl_axioms.specs.declared.name.Kind.TheVariants as kind
-use Rattle.owl_axioms.specs.declared.name.Name.{Name}
 use Rattle.owl_axioms.proofs.Signatures.{has_with}
 use Rattle.ofn_writer.specs.Kinds.{has_many_kinds, is_named}
 use Rattle.ofn_writer.specs.inner.Declared.{one_if, scope_in, with_property}

@@ -6,9 +6,7 @@ use Rattle.owl_axioms.specs.Names.{Scope}
 use Rattle.owl_axioms.specs.Same.{same_axiom}
 use Rattle.owl_axioms.specs.contracts.body.AxiomEq.TheImpl.Laws as laws
 use Rattle.owl_axioms.specs.declared.body.Axiom.{Axiom}
-use Rattle.owl_axioms.specs.declared.name.Kind.{Kind}
 use Rattle.owl_axioms.proofs.Members.{In}
-use Rattle.owl_axioms.proofs.Same.{same_axiom-true}
 use Rattle.ofn_writer.specs.Kinds.{declared, declares}
 use Rattle.ofn_writer.specs.Sorted.{sorted}
 use Rattle.ofn_writer.specs.Text.{axiom_lines, is_in_part, line, name_text, part, text_with, told_text}
@@ -124,10 +122,10 @@ unfolding axiom_lines
 same_lines scope first some others one other same =
     let texts = λ (axioms : List Axiom). map (told_text scope) (part first axioms) in
     let totals = λ (f : List ℕ → ℕ) (axioms : List Axiom).
-        total-sorted f (texts axioms) ∙ total-map (told_text scope) f (part first axioms) ∙ total-filter (λ a. is_in_part first a.body) (λ a. f (told_text scope a)) axioms in
+    total-sorted f (texts axioms) ∙ total-map (told_text scope) f (part first axioms) ∙ total-filter (λ a. is_in_part first a.body) (λ a. f (told_text scope a)) axioms in
     ap (flat_map line)
     (same_ascending (sorted (texts some)) (sorted (texts others)) (Ascends-sorted (texts some)) (Ascends-sorted (texts others))
-      (λ f. totals f some ∙ same_totals some others one other same (λ a. cond (is_in_part first a.body) (f (told_text scope a)) 0) ∙ sym (totals f others)))
+    (λ f. totals f some ∙ same_totals some others one other same (λ a. cond (is_in_part first a.body) (f (told_text scope a)) 0) ∙ sym (totals f others)))
 
 pub same_text : (name another : Option (List ℕ)) (some others : List Axiom) → name ≡ another → AreApart some → AreApart others → ((a : Axiom) → In a some ↔ In a others) → text_with (declared some) name some ≡ text_with (declared others) another others
 unfolding text_with

@@ -1,5 +1,5 @@
 -- What the text of an ontology goes by, and what its order amounts to. (Own.)
-use Rattle.std.specs.Prelude.{◌≡◌, ℕ, Bool, false, ◌+◌, if◌then◌else◌, List, [], ◌∷◌}
+use Rattle.std.specs.Prelude.{◌≡◌, ℕ, false, ◌+◌, if◌then◌else◌, List, [], ◌∷◌}
 use Rattle.std.specs.Cmp.Lexicographic.{slice_cmp}
 use Rattle.std.specs.List.{AllByRecursion}
 use Rattle.std.specs.Ordering.{is_lt, nat_cmp}

@@ -1,4 +1,4 @@
-use Rattle.std.proofs.Common.{◌↔◌, ap, sym, ◌∙◌}
+use Rattle.std.proofs.Common.{◌↔◌}
 use Rattle.owl_axioms.proofs.Members.{Contains-in, In, In-contains}
 use Rattle.owl_axioms.specs.declared.body.Axiom.{Axiom}
 use Rattle.owl_ontology.specs.Ontology.{axioms_of}

@@ -1,6 +1,5 @@
-use Rattle.std.proofs.Common.{ap, ◌∙◌}
+use Rattle.std.proofs.Common.{◌∙◌}
 use Rattle.std.proofs.lemmas.Result.{IfOk-weaker}
-use Rattle.owl_axioms.specs.Names.{Scope}
 use Rattle.owl_ontology.specs.Ontology.{axioms_of}
 use Rattle.ofn_writer.specs.Text.{text_with}
 use Rattle.ofn_writer.proofs.text.ofn_text.Goals as goal

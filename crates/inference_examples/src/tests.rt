@@ -1,0 +1,2 @@
+//! What is derived.
+mod derived;

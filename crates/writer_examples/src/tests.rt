@@ -1,0 +1,3 @@
+//! One module for each kind of text.
+mod ofn;
+mod writing;
