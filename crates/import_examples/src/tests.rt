@@ -1,0 +1,2 @@
+//! Which files are read.
+mod imports;
