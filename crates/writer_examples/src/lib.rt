@@ -1,5 +1,5 @@
-//! Worked examples of what is written and read beside OBO documents: functional-style text, the generated document, and term
-//! files, with the answers worked out by hand.
+//! Worked examples of what is made and read beside OBO documents: the generated document, and term files, with the answers
+//! worked out by hand.
 #![tactic(auto)]
 
 #[cfg(test)]

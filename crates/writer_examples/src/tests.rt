@@ -1,3 +1,2 @@
-//! One module for each kind of text.
-mod ofn;
+//! What is made and read beside OBO documents.
 mod writing;

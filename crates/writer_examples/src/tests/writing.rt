@@ -17,9 +17,12 @@ fn generated_documents_have_their_sizes(rt: HostRuntime) -> Result<(), Fail> {
 }
 
 /// How many names and IRIs the seed of a file of at most three lines has, or else the refused line, or 0 where there is no
-/// term.
+/// term. A file has at most a thousand bytes.
 fn told(alloc: Global, file: &str) -> Result<(usize, usize, u32), NoMemory> {
     let bytes = Bytes::from_slice(alloc, file.as_bytes())?;
+    if bytes.as_slice().len() > 1_000 {
+        return Ok((0, 0, 0));
+    }
     let name = Bytes::from_slice(alloc, b"ex")?;
     match read_seed(alloc, &bytes, &name, 3) {
         Ok(seed) => Ok((seed.sig.len(), seed.iris.as_slice().len(), 0)),
