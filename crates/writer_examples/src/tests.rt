@@ -1,2 +1,0 @@
-//! What is made and read beside OBO documents.
-mod writing;
