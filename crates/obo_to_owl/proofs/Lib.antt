@@ -1,0 +1,15 @@
+pub mod AddLemmas
+pub mod AddedAxioms
+pub mod FlagLemmas
+pub mod GroupLemmas
+pub mod LeastLemmas
+pub mod LineLemmas
+pub mod Linking
+pub mod DocumentRows
+pub mod OriginLemmas
+pub mod PartLemmas
+pub mod ReportLemmas
+pub mod RowLemmas
+pub mod SpaceLemmas
+pub mod SpacedLemmas
+pub mod WholeLemmas

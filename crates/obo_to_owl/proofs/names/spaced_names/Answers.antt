@@ -1,0 +1,12 @@
+use Rattle.owl_ontology.specs.Ontology.{axioms_of}
+use Rattle.obo_mapping.specs.Documents.{is_namespace}
+use Rattle.obo_to_owl.specs.inner.Spacing.{has_name}
+use Rattle.obo_to_owl.proofs.SpaceLemmas.{named_next}
+use Rattle.obo_to_owl.proofs.RowLemmas.{got, within-some}
+use Rattle.obo_to_owl.proofs.names.spaced_names.Goals as goal
+
+pub loop-at-preserved : goal.loop-at-preserved
+loop-at-preserved c = λ x.
+    let axioms = axioms_of c.args.ontology.now.entries in
+    let found = c.get.ensures.found in
+    named_next is_namespace axioms c.loop-at.at c.get.result.now x (has_name c.args.kept x) (has_name c.loop-at.names x) (has_name c.space_name.new.names x) (within-some axioms c.loop-at.at c.get.result.now found) (got axioms c.loop-at.at c.get.result.now found) (c.loop-at.invariant x) (c.in_ok-space_name.ensures x)

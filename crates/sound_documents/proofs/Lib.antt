@@ -1,0 +1,3 @@
+pub mod FrameSound
+pub mod NameLemmas
+pub mod Operands
