@@ -17,8 +17,8 @@ use Rattle.obo_mapping.specs.Documents.{norm}
 use Rattle.obo_mapping.specs.Sound as sets
 use Rattle.obo_normal_form.proofs.NormFacts.{norm_once}
 use Rattle.obo_normal_form.proofs.ShortGroups.{norm_is_sound}
-use Rattle.obo_canonical.specs.Laws.{CanonicalIsOfSet, CanonicalReadsBack, CanonisingTwiceIsOnce, DocumentsAreSound, NormIsOfSet, canonical}
-use Rattle.obo_canonical.proofs.FrameSound.{AreBare, kept_from, sound_from}
+use Rattle.obo_canonical.specs.Laws.{CanonicalIsOfSet, CanonicalReadsBack, CanonisingTwiceIsOnce, NormIsOfSet, canonical}
+use Rattle.sound_documents.proofs.FrameSound.{AreBare, kept_from, sound_from}
 use Rattle.obo_canonical.proofs.NormBare.{bare_norm}
 use Rattle.obo_canonical.proofs.NormOfSet.{norm_of_set}
 
@@ -62,9 +62,6 @@ text_of placed made sound same =
     of_set_law (lined n) (lined_sound placed sound) made (as_lined made n same) ∙ ap canonical_text (unlined_lined n)
 
 -- ---- the laws
-
-pub documents_are_sound : DocumentsAreSound
-documents_are_sound placed sound = ∥∥₁_map sound (sound_from placed)
 
 pub norm_goes_by_set : NormIsOfSet
 norm_goes_by_set some others same = norm_of_set (map unlined some) (map unlined others) same

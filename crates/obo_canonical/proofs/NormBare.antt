@@ -34,7 +34,7 @@ use Rattle.obo_mapping.proofs.SpelledShapes.{Shape, group_clause, shape}
 use Rattle.obo_normal_form.proofs.FormedAxioms.{formed}
 use Rattle.obo_normal_form.proofs.NormLaw as norms
 use Rattle.obo_normal_form.proofs.SettleLaws as settle
-use Rattle.obo_canonical.proofs.FrameSound.{AreBare, sound_from}
+use Rattle.sound_documents.proofs.FrameSound.{AreBare, sound_from}
 
 -- the clause is no `id` clause
 abbrev IsOther : Framed → Type 0

@@ -12,7 +12,7 @@ use Rattle.obo_mapping.specs.Documents.{header_with, is_untranslatable, kept, na
 use Rattle.obo_mapping.proofs.OfSet.{spelled_of_set}
 use Rattle.obo_canonical.specs.inner.Settled.{all_kept}
 use Rattle.obo_canonical.proofs.KeptLemmas.{kept_is}
-use Rattle.obo_canonical.proofs.NameLemmas.{same_space}
+use Rattle.sound_documents.proofs.NameLemmas.{same_space}
 
 -- what is kept
 pub kept_by : (d : List Framed) (space : List ℕ) (made : List Framed) → space ≡ naming.space_of d → made ≡ all_kept space (is_untranslatable d) d → made ≡ kept d

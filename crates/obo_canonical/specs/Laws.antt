@@ -10,15 +10,10 @@ use Rattle.obo_frames.specs.declared.placed.Placed.{Placed}
 use Rattle.obo_text.specs.Laws.{LinesFit}
 use Rattle.obo_text.specs.Text.{canonical_text}
 use Rattle.obo_mapping.specs.Documents.{norm}
-use Rattle.obo_mapping.specs.Sound.{IsSound}
 
 -- the text of the normal form
 abbrev pub canonical : List Framed → List ℕ
 canonical d = canonical_text (norm d)
-
--- the clauses of every document are sound as a set: what the laws of the normal form ask for
-abbrev pub DocumentsAreSound : Type 0
-DocumentsAreSound = (placed : List Placed) → documents.IsSound placed → ∥ IsSound (map unlined placed) ∥₁
 
 -- the normal form depends on the set of clauses alone
 abbrev pub NormIsOfSet : Type 0

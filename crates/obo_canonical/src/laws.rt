@@ -1,10 +1,5 @@
 //! What the canonical text amounts to. Each law is the contract of a function that does nothing.
-ghost use Rattle.obo_canonical.specs.Laws.{CanonicalIsOfSet, CanonicalReadsBack, CanonisingTwiceIsOnce, DocumentsAreSound, NormIsOfSet};
-
-/// The clauses of every document are sound as a set, as the laws of the normal form ask.
-pub fn documents_are_sound()
-    ensures { DocumentsAreSound }
-{}
+ghost use Rattle.obo_canonical.specs.Laws.{CanonicalIsOfSet, CanonicalReadsBack, CanonisingTwiceIsOnce, NormIsOfSet};
 
 /// The normal form depends on the set of clauses alone: neither on their order, nor on repeats, nor on lines.
 pub fn norm_is_of_set()

@@ -5,9 +5,12 @@
 mod header;
 mod kept;
 mod laws;
+mod normal;
 mod settled;
+mod text;
 
 pub use laws::{
-    canonical_is_of_set, canonical_reads_back, canonising_twice_is_once, documents_are_sound,
-    norm_is_of_set,
+    canonical_is_of_set, canonical_reads_back, canonising_twice_is_once, norm_is_of_set,
 };
+pub use normal::norm;
+pub use text::canonical;

@@ -1,9 +1,9 @@
 -- The axioms of entries that are added one after the other.
-use Rattle.std.proofs.Common.{◌≡◌, ◌⊎◌, Bool, true, false, List, [], ◌∷◌, if◌then◌else◌, map, refl, sym, ap, subst, ◌∙◌, inl, inr, ⊎_elim}
+use Rattle.std.proofs.Common.{◌≡◌, ◌⊎◌, true, false, List, [], ◌∷◌, if◌then◌else◌, refl, sym, subst, inl, inr, ⊎_elim}
 use Rattle.text_sets.specs.Sets.{In}
 use Rattle.owl_axioms.specs.Same.{same_axiom}
 use Rattle.owl_axioms.specs.declared.body.Axiom.{Axiom}
-use Rattle.owl_ontology.specs.Ontology.{Entry, add_entry, axioms_of, entry_of}
+use Rattle.owl_ontology.specs.Ontology.{Entry, add_entry, axioms_of}
 use Rattle.owl_ontology.specs.Origins.{lesser}
 use Rattle.owl_ontology.specs.declared.origin.Origin.{Origin}
 use Rattle.obo_to_owl.specs.inner.Adding.{add_all}

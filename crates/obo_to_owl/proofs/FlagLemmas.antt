@@ -1,5 +1,5 @@
 -- Of each clause, whether it is not translated.
-use Rattle.std.proofs.Common.{◌≡◌, ℕ, Bool, List, [], ◌∷◌, Option, ap, map, refl, subst, sym, ◌∙◌, inl, inr}
+use Rattle.std.proofs.Common.{◌≡◌, ℕ, Bool, List, [], ◌∷◌, ap, map, refl, subst, sym, ◌∙◌, inl, inr}
 use Rattle.iri_map.specs.Ontology.{name_or_temp}
 use Rattle.text_sets.specs.Sets.{In}
 use Rattle.obo_frames.specs.Framed.{Framed, unlined}

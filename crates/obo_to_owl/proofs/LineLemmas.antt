@@ -1,20 +1,19 @@
 -- The line of an axiom: the least of the lines of clauses.
-use Rattle.std.proofs.Common.{◌≡◌, ◌⊎◌, ◌<◌, ◌≤◌, ◌∙◌, ℕ, Bool, true, false, cond, List, [], ◌∷◌, ◌++◌, Option, None, Some, map, nat_lt, inl, inr, ⊎_elim, refl, sym, ap, subst, arith}
+use Rattle.std.proofs.Common.{◌≡◌, ◌⊎◌, ◌≤◌, ◌∙◌, ℕ, true, false, cond, List, [], ◌∷◌, None, Some, map, nat_lt, inl, inr, ⊎_elim, refl, sym, ap, subst, arith}
 use Rattle.std.specs.Cmp.{nat_cmp_is, tied_itself}
-use Rattle.std.specs.Cmp.Lexicographic.{nat_list_cmp_total, slice_cmp}
-use Rattle.std.specs.Ordering.{nat_cmp, ordering_then}
-use Rattle.std.specs.declared.cmp.Ordering.TheVariants.{Equal, Greater, Less}
+use Rattle.std.specs.Cmp.Lexicographic.{nat_list_cmp_total}
+use Rattle.std.specs.Ordering.{ordering_then}
+use Rattle.std.specs.declared.cmp.Ordering.TheVariants.{Equal, Less}
 use Rattle.std.proofs.lemmas.Bool.Decides.{leb_tells, nat_tests}
 use Rattle.std.proofs.lemmas.Option.{none-some, same_Some}
 use Rattle.text_sets.specs.Sets.{In}
 use Rattle.text_sets.specs.Sorted.{IsBelow, Rises, sorted_by, text_cmp}
-use Rattle.text_sets.proofs.SetLemmas.{In-map}
 use Rattle.text_sets.proofs.SortedLemmas.{Rises-sorted_by, sorted_by-each, sorted_by-only}
 use Rattle.obo_frames.specs.declared.placed.Placed.{Placed}
 use Rattle.obo_mapping.specs.Lines.{least_line}
 use Rattle.obo_notes.specs.Forms.{first_part}
 use Rattle.obo_to_owl.specs.inner.Grouping.{Seen, gather, gather_all, gather_onto, lesser_line}
-use Rattle.obo_to_owl.specs.inner.Spacing.{least_onto, lesser_of}
+use Rattle.obo_to_owl.specs.inner.Spacing.{least_onto}
 use Rattle.obo_to_owl.specs.declared.rows.Row.{Row}
 
 -- the line is among them, and none is less

@@ -1,8 +1,8 @@
 -- What the program has found out about a document is what the definitions say of it.
-use Rattle.std.proofs.Common.{◌≡◌, ◌&&◌, ◌||◌, ℕ, Bool, true, false, not, cond, List, [], ◌∷◌, Option, None, Some, if◌then◌else◌, map, refl, sym, ap, subst, ◌∙◌, inl, inr}
+use Rattle.std.proofs.Common.{◌≡◌, ◌&&◌, ◌||◌, ℕ, Bool, true, false, not, cond, List, [], ◌∷◌, Option, None, Some, if◌then◌else◌, map, refl, ap, ◌∙◌, inl, inr}
 use Rattle.std.specs.List.{list_any}
 use Rattle.std.specs.Option.{option_map, option_map_or}
-use Rattle.std.specs.Prelude.{filter, is_some}
+use Rattle.std.specs.Prelude.{filter}
 use Rattle.std.specs.Str.{bytes_eq}
 use Rattle.std.proofs.lemmas.Cmp.{nat_list_eq_equiv}
 use Rattle.iri_map.specs.Id.{iri_of}
@@ -10,14 +10,12 @@ use Rattle.text_sets.specs.Sets.{In}
 use Rattle.obo_tags.specs.declared.kind.FrameKind.{FrameKind}
 use Rattle.obo_tags.specs.declared.kind.FrameKind.TheVariants as frames
 use Rattle.obo_frames.specs.Framed.{Framed}
-use Rattle.owl_axioms.specs.declared.body.Axiom.{Axiom}
 use Rattle.owl_axioms.specs.declared.name.Kind.TheVariants as kinds
-use Rattle.owl_axioms.specs.declared.name.Name.{Name}
 use Rattle.obo_statements.specs.Groups.{Group, group_tag, intersection, union}
 use Rattle.obo_mapping.specs.Axioms.{axiom_said, entity_of, is_metadata, name_as, said_at}
-use Rattle.obo_mapping.specs.Documents.{group_in, group_of, has_tag, is_broken, is_misfit, is_of_metadata, is_other_name, is_raw, is_term, is_untranslatable, name_of, situation_of, space_of}
+use Rattle.obo_mapping.specs.Documents.{group_of, has_tag, is_broken, is_misfit, is_raw, is_term, is_untranslatable, situation_of, space_of}
 use Rattle.obo_to_owl.specs.inner.Adding.{said_by}
-use Rattle.obo_to_owl.specs.inner.Known.{IsKnown, among, has, has_misfit, is_metadata_clause, is_of_group}
+use Rattle.obo_to_owl.specs.inner.Known.{IsKnown, among, has, has_misfit, is_metadata_clause}
 use Rattle.obo_to_owl.specs.inner.Left.{broken_in, is_left}
 use Rattle.obo_to_owl.specs.inner.Rows.{AreRead, of_row}
 use Rattle.obo_to_owl.specs.inner.Rules.{is_of_relation, is_other_than}

@@ -1,14 +1,13 @@
 -- Each axiom that is added has the least of the lines that say it.
-use Rattle.std.proofs.Common.{◌≡◌, ◌&&◌, ◌||◌, ◌⊎◌, ◌≤◌, ◌∙◌, ℕ, Bool, true, false, not, cond, List, [], ◌∷◌, ◌++◌, codes, Contains, Option, None, Some, map, nat_lt, inl, inr, ⊎_elim, refl, sym, ap, subst, arith}
+use Rattle.std.proofs.Common.{◌≡◌, ◌&&◌, ◌||◌, ◌⊎◌, ◌≤◌, ◌∙◌, ℕ, Bool, true, false, not, cond, List, [], ◌∷◌, ◌++◌, codes, Option, None, Some, map, inl, inr, ⊎_elim, refl, sym, ap, subst, arith}
 use Rattle.std.specs.List.{cons_option, filter_map, flat_map, list_any}
-use Rattle.std.specs.Option.{option_map, option_map_or, option_or, option_to_list}
+use Rattle.std.specs.Option.{option_map_or, option_or, option_to_list}
 use Rattle.std.specs.Prelude.{filter}
-use Rattle.std.specs.Str.{bytes_eq}
 use Rattle.std.proofs.lemmas.Bool.Decides.{nat_tests}
 use Rattle.std.proofs.lemmas.Map.Keys.{IsDistinct-from_apart}
 use Rattle.std.proofs.lemmas.Option.{none-some}
 use Rattle.iri_map.proofs.CandidateLemmas.{bytes_eq-refl}
-use Rattle.text_sets.specs.Sets.{In, SameMembers}
+use Rattle.text_sets.specs.Sets.{In}
 use Rattle.text_sets.proofs.PartLemmas.{option_map_some}
 use Rattle.text_sets.proofs.SetLemmas.{In-append, In-append_left, In-append_right, In-filter, In-filter_map, In-flat_map, In-from_contains, In-from_filter, In-from_filter_map, In-from_flat_map, In-from_map, In-map, contains-from_In}
 use Rattle.owl_axioms.proofs.Same.{same_axiom-true}
@@ -37,7 +36,7 @@ use Rattle.obo_mapping.specs.Documents.{declared_in, group_said, has_tag, is_nam
 use Rattle.obo_mapping.specs.Lines.{least_line, line_of}
 use Rattle.obo_mapping.specs.Lines as lines
 use Rattle.obo_mapping.proofs.OfSet.{any_from_in, in_from_any}
-use Rattle.obo_mapping.proofs.SpelledLaw.{declared_name, name_declared}
+use Rattle.obo_mapping.proofs.SpelledLaw.{declared_name}
 use Rattle.obo_mapping.proofs.SinglesLaw.{IsStatement}
 use Rattle.obo_normal_form.proofs.OwlCases.{said_cases, stated_statement}
 use Rattle.obo_to_owl.specs.Translated.{IsPlaced}
@@ -46,13 +45,13 @@ use Rattle.obo_to_owl.specs.inner.Grouping.{AreBothAdded, AreGroupsAdded, gather
 use Rattle.obo_to_owl.specs.inner.Known.{IsKnown}
 use Rattle.obo_to_owl.specs.inner.Left.{is_left}
 use Rattle.obo_to_owl.specs.inner.Rows.{AreRead, clause_of, of_row}
-use Rattle.obo_to_owl.specs.inner.Spacing.{entity_in, entry_named, is_spaced, least_onto, line_for, line_named, name_eq, name_kept, names_left, default_found, option_or_zero, spaces_in, spaces_with, spacing}
+use Rattle.obo_to_owl.specs.inner.Spacing.{entity_in, entry_named, is_spaced, line_for, line_named, name_eq, name_kept, names_left, default_found, option_or_zero, spaces_in, spaces_with, spacing}
 use Rattle.obo_to_owl.specs.declared.rows.Row.{Row}
 use Rattle.obo_to_owl.specs.declared.situation.Situation.{Situation}
 use Rattle.obo_to_owl.proofs.DocumentRows.{rows_are}
 use Rattle.obo_to_owl.proofs.LineLemmas.{IsLeastLine, gathered_line, least_is, least_line_is, row_line}
 use Rattle.obo_to_owl.proofs.Linking.{entity_is, left_known, said_known}
-use Rattle.obo_to_owl.proofs.PartLemmas.{In-option, IsSaidTogether, alone_said, option-In, row_together, row_translated, said_alone, together_at, together_said}
+use Rattle.obo_to_owl.proofs.PartLemmas.{In-option, alone_said, option-In, row_together, row_translated, said_alone, together_at, together_said}
 use Rattle.obo_to_owl.proofs.SpacedLemmas.{name_same}
 use Rattle.obo_to_owl.proofs.WholeLemmas.{alone, grouped_same, placed_said, together}
 

@@ -1,10 +1,10 @@
 -- The axioms of clauses and of groups, as the program gathers them, are those of the definitions.
-use Rattle.std.proofs.Common.{◌≡◌, ◌&&◌, ◌||◌, ◌⊎◌, ◌∙◌, ℕ, Bool, true, false, not, cond, List, [], ◌∷◌, ◌++◌, Option, None, Some, map, inl, inr, ⊎_elim, refl, sym, ap, subst}
+use Rattle.std.proofs.Common.{◌≡◌, ◌&&◌, ◌||◌, ◌∙◌, ℕ, Bool, true, false, not, cond, List, [], ◌∷◌, ◌++◌, Option, None, Some, map, inl, inr, refl, sym, ap, subst}
 use Rattle.std.specs.List.{filter_map, flat_map, list_any}
 use Rattle.std.specs.Option.{option_and_then, option_map, option_map_or, option_to_list}
 use Rattle.std.specs.Prelude.{filter}
 use Rattle.std.specs.Str.{bytes_eq}
-use Rattle.std.proofs.lemmas.Bool.{and_parts, cases_Bool, false_from_ne_true, not-true}
+use Rattle.std.proofs.lemmas.Bool.{and_parts, false_from_ne_true, not-true}
 use Rattle.std.proofs.lemmas.Option.{none-some, same_Some}
 use Rattle.iri_map.specs.Id.{iri_of}
 use Rattle.iri_map.proofs.CandidateLemmas.{bytes_eq-refl}
@@ -16,16 +16,15 @@ use Rattle.obo_tags.specs.declared.kind.FrameKind.TheVariants as frames
 use Rattle.obo_clause.specs.declared.clause.Clause.{Clause}
 use Rattle.obo_frames.specs.Framed.{Framed, framed}
 use Rattle.owl_axioms.specs.declared.body.Axiom.{Axiom}
-use Rattle.owl_ontology.specs.Ontology.{Entry, axioms_of}
 use Rattle.obo_notes.specs.Context.{reading_in, where_true}
 use Rattle.obo_notes.proofs.Guards.{same_bytes, where_true_some}
-use Rattle.obo_statements.specs.Groups.{Group, group_meaning, group_tag, intersection, union}
-use Rattle.obo_mapping.specs.Axioms.{Situation as Reads, axiom_said, axioms_said}
+use Rattle.obo_statements.specs.Groups.{Group, group_meaning, group_tag}
+use Rattle.obo_mapping.specs.Axioms.{axiom_said, axioms_said}
 use Rattle.obo_mapping.specs.Documents.{group_in, group_of, group_said, group_with, has_tag, is_broken, is_header, is_misfit, is_raw, is_term, is_typedef, is_untranslatable, situation_of, space_of}
 use Rattle.obo_mapping.proofs.OfSet.{any_from_in}
 use Rattle.obo_mapping.proofs.SpelledLaw.{group_with_tag, tag_of_group}
-use Rattle.obo_to_owl.specs.inner.Adding.{entries_said, entry_at, said_by}
-use Rattle.obo_to_owl.specs.inner.Grouping.{AreGroupsAdded, Seen, gather, gather_all, gather_onto, group_rows, seen_axiom, seen_entries}
+use Rattle.obo_to_owl.specs.inner.Adding.{said_by}
+use Rattle.obo_to_owl.specs.inner.Grouping.{Seen, gather, gather_all, gather_onto, group_rows, seen_axiom}
 use Rattle.obo_to_owl.specs.inner.Known.{IsKnown, has, is_of_group}
 use Rattle.obo_to_owl.specs.inner.Left.{broken_in, is_left}
 use Rattle.obo_to_owl.specs.inner.Rows.{AreRead, of_row}

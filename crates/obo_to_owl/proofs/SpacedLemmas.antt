@@ -15,19 +15,18 @@ use Rattle.owl_axioms.specs.declared.body.Axiom.{Axiom}
 use Rattle.owl_axioms.specs.declared.name.Kind.{Kind}
 use Rattle.owl_axioms.specs.declared.name.Kind.TheVariants as kinds
 use Rattle.owl_axioms.specs.declared.name.Name.{Name}
-use Rattle.owl_ontology.specs.Ontology.{Entry, axioms_of}
+use Rattle.owl_ontology.specs.Ontology.{axioms_of}
 use Rattle.obo_frames.specs.Framed.{Framed}
 use Rattle.obo_notes.specs.Context.{where_true}
 use Rattle.obo_notes.proofs.ProperSides.{own_clean}
 use Rattle.obo_mapping.specs.Axioms.{entity_of, same_kind}
 use Rattle.obo_mapping.specs.Documents.{declared_in, default_in, has_tag, is_namespace, is_raw, is_untranslatable, kept_with, same_name, situation_of, space_of, text_in}
-use Rattle.obo_mapping.proofs.OfSet.{any_from_in}
 use Rattle.obo_mapping.proofs.SpacedLaws.{added, default_of, lacks}
 use Rattle.obo_mapping.proofs.SpelledLaw.{declared_name}
 use Rattle.obo_to_owl.specs.inner.Known.{IsKnown}
 use Rattle.obo_to_owl.specs.inner.Left.{is_left}
 use Rattle.obo_to_owl.specs.inner.Rows.{AreRead, of_row}
-use Rattle.obo_to_owl.specs.inner.Spacing.{default_found, default_kept, entity_in, entry_named, entry_spaced, has_name, is_spaced, least_onto, line_for, line_in, name_eq, name_kept, names_left, option_or_zero, spaces_in, spaces_with, spacing}
+use Rattle.obo_to_owl.specs.inner.Spacing.{default_found, default_kept, entry_named, entry_spaced, has_name, is_spaced, least_onto, line_for, line_in, name_eq, name_kept, names_left, option_or_zero, spaces_in, spaces_with, spacing}
 use Rattle.obo_to_owl.specs.declared.rows.Row.{Row}
 use Rattle.obo_to_owl.specs.declared.situation.Situation.{Situation}
 use Rattle.obo_to_owl.proofs.LeastLemmas.{least_of_both}

@@ -1,5 +1,5 @@
 -- The axioms of all that is added are those of the document.
-use Rattle.std.proofs.Common.{◌≡◌, ◌⊎◌, ◌∙◌, ℕ, true, not, List, [], ◌∷◌, ◌++◌, Option, Some, map, inl, inr, ⊎_elim, refl, sym, ap, subst}
+use Rattle.std.proofs.Common.{◌≡◌, ◌∙◌, ℕ, not, List, [], ◌++◌, Option, Some, map, ⊎_elim, sym, ap, subst}
 use Rattle.std.specs.List.{filter_map, flat_map}
 use Rattle.std.specs.Option.{option_to_list}
 use Rattle.std.specs.Prelude.{filter}
@@ -14,7 +14,7 @@ use Rattle.obo_mapping.specs.Axioms.{axioms_said}
 use Rattle.obo_mapping.specs.Documents.{group_said, is_untranslatable, owl, situation_of, space_of, spaced}
 use Rattle.obo_mapping.proofs.SpacedLaws.{same_spaced}
 use Rattle.obo_statements.specs.Groups.{Group, intersection, union}
-use Rattle.obo_to_owl.specs.inner.Adding.{AreAdded, add_all, entries_said, entry_at, said_by}
+use Rattle.obo_to_owl.specs.inner.Adding.{AreAdded, entries_said, entry_at, said_by}
 use Rattle.obo_to_owl.specs.inner.Grouping.{AreBothAdded, AreGroupsAdded, AreProperGroups, Seen, seen_axiom, seen_entries}
 use Rattle.obo_to_owl.specs.inner.Known.{IsKnown}
 use Rattle.obo_to_owl.specs.inner.Left.{is_left}

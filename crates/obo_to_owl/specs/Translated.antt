@@ -1,5 +1,5 @@
 -- What the translation of a document gives. (Own.)
-use Rattle.std.specs.Prelude.{◌≡◌, ℕ, List, Some, map}
+use Rattle.std.specs.Prelude.{◌≡◌, ℕ, List, Some}
 use Rattle.owl_ontology.specs.Ontology.{Entry}
 use Rattle.obo_frames.specs.declared.placed.Placed.{Placed}
 use Rattle.obo_mapping.specs.Lines.{line_of}

@@ -1,5 +1,5 @@
 use Rattle.std.proofs.Common.{false}
-use Rattle.obo_to_owl.specs.inner.Spacing.{has_name, line_for, line_in, name_kept}
+use Rattle.obo_to_owl.specs.inner.Spacing.{has_name, name_kept}
 use Rattle.obo_to_owl.proofs.SpaceLemmas.{named_next}
 use Rattle.obo_to_owl.proofs.names.kept_names.Goals as goal
 

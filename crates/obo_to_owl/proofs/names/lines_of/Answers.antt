@@ -1,5 +1,4 @@
-use Rattle.std.proofs.Common.{false}
-use Rattle.obo_to_owl.specs.inner.Spacing.{has_name, line_for, line_in, name_kept}
+use Rattle.obo_to_owl.specs.inner.Spacing.{line_for, line_in}
 use Rattle.obo_to_owl.proofs.SpaceLemmas.{line_next}
 use Rattle.obo_to_owl.proofs.names.lines_of.Goals as goal
 

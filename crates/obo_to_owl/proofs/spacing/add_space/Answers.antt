@@ -1,10 +1,9 @@
-use Rattle.std.proofs.Common.{◌∷◌, ◌||◌, [], ap, not, sym, subst, ◌∙◌}
-use Rattle.std.specs.List.{filter_map, flat_map, list_any}
-use Rattle.owl_axioms.specs.declared.name.Name.{Name}
+use Rattle.std.proofs.Common.{◌||◌, ap, not, subst, ◌∙◌}
+use Rattle.std.specs.List.{filter_map, list_any}
 use Rattle.owl_ontology.specs.Ontology.{axioms_of}
 use Rattle.obo_mapping.specs.Documents.{is_namespace}
 use Rattle.obo_to_owl.specs.inner.Adding.{AreAdded}
-use Rattle.obo_to_owl.specs.inner.Spacing.{entry_spaced, has_name, name_eq}
+use Rattle.obo_to_owl.specs.inner.Spacing.{has_name, name_eq}
 use Rattle.obo_to_owl.proofs.SpacedLemmas.{spaces_are, spacing_proper}
 use Rattle.obo_to_owl.proofs.spacing.add_space.Goals as goal
 

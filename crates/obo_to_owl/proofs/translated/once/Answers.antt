@@ -1,4 +1,4 @@
-use Rattle.std.proofs.Common.{◌≡◌, ◌∙◌, ℕ, List, [], ◌∷◌, ap, map, refl, sym, subst}
+use Rattle.std.proofs.Common.{◌≡◌, ◌∙◌, ℕ, List, [], ◌∷◌, ap, map, refl, sym}
 use Rattle.std.proofs.lemmas.List.Filters.{dedup_is}
 use Rattle.text_sets.specs.Sorted.{sorted_by}
 use Rattle.text_sets.proofs.OnceLemmas.{sorted_once_is}

@@ -1,5 +1,5 @@
 -- Each axiom that is added is one of the document's, and there are no others.
-use Rattle.std.proofs.Common.{List, ap, map, not, subst, sym, ◌∙◌}
+use Rattle.std.proofs.Common.{ap, not, subst, sym, ◌∙◌}
 use Rattle.std.specs.Prelude.{filter}
 use Rattle.std.specs.List.{flat_map}
 use Rattle.text_sets.specs.Sets.{In}

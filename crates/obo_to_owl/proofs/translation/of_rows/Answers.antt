@@ -1,10 +1,9 @@
 -- What is left is what the definitions leave.
 use Rattle.std.proofs.Common.{List, ap, map, subst, ◌∙◌}
 use Rattle.text_sets.specs.Sorted.{sorted_by}
-use Rattle.obo_mapping.specs.Documents.{space_of}
 use Rattle.obo_to_owl.specs.Reports.{report_key, report_of}
 use Rattle.obo_to_owl.specs.inner.Known.{IsKnown}
-use Rattle.obo_to_owl.specs.inner.Rows.{AreRead, clause_of, of_row}
+use Rattle.obo_to_owl.specs.inner.Rows.{AreRead, clause_of}
 use Rattle.obo_to_owl.specs.declared.rows.Row.{Row}
 use Rattle.obo_to_owl.proofs.Linking.{left_rows}
 use Rattle.obo_to_owl.proofs.translation.of_rows.Goals as goal

@@ -5,7 +5,6 @@ use Rattle.std.proofs.lemmas.Result.{IfOk-weaker}
 use Rattle.text_sets.specs.Sets.{In, SameMembers}
 use Rattle.text_sets.specs.Sorted.{sorted_by}
 use Rattle.iri_map.specs.Ontology.{name_or_temp}
-use Rattle.owl_axioms.specs.Proper.{IsProper}
 use Rattle.owl_ontology.specs.Ontology.{axioms_of}
 use Rattle.obo_frames.specs.Framed.{Framed, unlined}
 use Rattle.obo_frames.specs.declared.placed.Placed.{Placed}
