@@ -7,11 +7,11 @@ use Rattle.chain_words.specs.Clash.{clash, clash_from, first_clash, is_placed, o
 use Rattle.chain_words.specs.Command.{is_one_of, read_names, times}
 use Rattle.chain_words.specs.declared.fault.WordKind.{WordKind}
 use Rattle.chain_words.specs.declared.fault.WordKind.TheVariants.{OutputIsInput, OutputTwice}
-use Rattle.chain_words.specs.declared.given.Placed.{Placed}
+use Rattle.chain_words.specs.declared.given.OutputFile.{OutputFile}
 use Rattle.chain_words.specs.declared.command.Chain.{Chain}
 
 -- the names of outputs
-abbrev pub names_of : List Placed → List Name
+abbrev pub names_of : List OutputFile → List Name
 names_of outputs = map (λ file. file.name) outputs
 
 -- a test that does not pass fails
@@ -35,12 +35,12 @@ or_right true b is = refl
 or_right false b is = is
 
 -- an output of a name is counted among the names
-counted : (name : Name) (file : Placed) (rest : List Placed) (b : Bool) → same file.name name ≡ b → times name (names_of (file ∷ rest)) ≡ cond b (suc (times name (names_of rest))) (times name (names_of rest))
+counted : (name : Name) (file : OutputFile) (rest : List OutputFile) (b : Bool) → same file.name name ≡ b → times name (names_of (file ∷ rest)) ≡ cond b (suc (times name (names_of rest))) (times name (names_of rest))
 counted name file rest true here = rw here refl
 counted name file rest false here = rw here refl
 
 -- an output of a name is among the outputs
-placed_any : (name : Name) (outputs : List Placed) → is_placed name outputs ≡ is_one_of name (names_of outputs)
+placed_any : (name : Name) (outputs : List OutputFile) → is_placed name outputs ≡ is_one_of name (names_of outputs)
 placed_any name [] = refl
 placed_any name (file ∷ rest) = ap (λ b. same file.name name || b) (placed_any name rest)
 
@@ -54,7 +54,7 @@ any_counts name (x ∷ xs) is = by_test (same x name) (any_counts name xs) is
     by_test false later is = later is
 
 -- nothing clashes on a name
-pub record NoClash (name : Name) (chain : Chain) (earlier rest : List Placed) : Type 0 where
+pub record NoClash (name : Name) (chain : Chain) (earlier rest : List OutputFile) : Type 0 where
   pub once : times name (names_of rest) ≤ 1
   pub fresh : 1 ≤ times name (names_of rest) → (is_placed name earlier ≡ false) × (is_one_of name (read_names chain) ≡ false)
 
@@ -65,7 +65,7 @@ free false true is = absurd cc
 free false false is = (refl, refl)
 
 -- where no output clashes, nothing clashes on any name
-pub no_clash : (name : Name) (chain : Chain) (earlier rest : List Placed) → clash_from chain earlier rest ≡ None → NoClash name chain earlier rest
+pub no_clash : (name : Name) (chain : Chain) (earlier rest : List OutputFile) → clash_from chain earlier rest ≡ None → NoClash name chain earlier rest
 no_clash name chain earlier [] is = record { once = omega arith; fresh = λ some. absurd (omega arith) }
 no_clash name chain earlier (file ∷ rest) is = by_clash (clash chain earlier file) refl (no_clash name chain (earlier ++ file ∷ []) rest) is
   where
@@ -96,7 +96,7 @@ no_clash name chain earlier (file ∷ rest) is = by_clash (clash chain earlier f
     by_clash None quiet later is = by_name quiet (later is) (same file.name name) refl
 
 -- where each name stands once at most and none is read, nothing clashes
-quiet_from : (chain : Chain) (earlier rest : List Placed) → ((name : Name) → times name (names_of earlier) + times name (names_of rest) ≤ 1) → ((name : Name) → 1 ≤ times name (names_of rest) → is_one_of name (read_names chain) ≡ false) → clash_from chain earlier rest ≡ None
+quiet_from : (chain : Chain) (earlier rest : List OutputFile) → ((name : Name) → times name (names_of earlier) + times name (names_of rest) ≤ 1) → ((name : Name) → 1 ≤ times name (names_of rest) → is_one_of name (read_names chain) ≡ false) → clash_from chain earlier rest ≡ None
 quiet_from chain earlier [] once fresh = refl
 quiet_from chain earlier (file ∷ rest) once fresh =
     ap (λ k. or_later k file.at (clash_from chain (earlier ++ file ∷ []) rest)) none
@@ -111,7 +111,7 @@ quiet_from chain earlier (file ∷ rest) once fresh =
     one : (name : Name) → times name (names_of (file ∷ [])) + times name (names_of rest) ≡ times name (names_of (file ∷ rest))
     one name = elim (same file.name name) as (λ b. length (cond b (file.name ∷ []) []) + length (filter (λ other. same other name) (names_of rest)) ≡ length (cond b (file.name ∷ filter (λ other. same other name) (names_of rest)) (filter (λ other. same other name) (names_of rest)))) [ true ↦ omega arith | false ↦ omega arith ]
 
-    appended : (name : Name) (xs ys : List Placed) → times name (names_of (xs ++ ys)) ≡ times name (names_of xs) + times name (names_of ys)
+    appended : (name : Name) (xs ys : List OutputFile) → times name (names_of (xs ++ ys)) ≡ times name (names_of xs) + times name (names_of ys)
     appended name [] ys = omega arith
     appended name (x ∷ xs) ys = by_test (same x.name name) (appended name xs ys)
       where
@@ -131,5 +131,5 @@ quiet_from chain earlier (file ∷ rest) once fresh =
         rw (read, twice) refl
 
 -- so it is from the first output on
-pub quiet : (chain : Chain) (outputs : List Placed) → ((name : Name) → times name (names_of outputs) ≤ 1) → ((name : Name) → 1 ≤ times name (names_of outputs) → is_one_of name (read_names chain) ≡ false) → first_clash chain outputs ≡ None
+pub quiet : (chain : Chain) (outputs : List OutputFile) → ((name : Name) → times name (names_of outputs) ≤ 1) → ((name : Name) → 1 ≤ times name (names_of outputs) → is_one_of name (read_names chain) ≡ false) → first_clash chain outputs ≡ None
 quiet chain outputs once fresh = quiet_from chain [] outputs (λ name. omega (arith, once name)) fresh

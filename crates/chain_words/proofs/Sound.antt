@@ -25,7 +25,7 @@ use Rattle.chain_words.specs.declared.table.OptionWord.TheVariants as option
 use Rattle.chain_words.specs.declared.setting.Setting.{Setting}
 use Rattle.chain_words.specs.declared.setting.Setting.TheVariants as setting
 use Rattle.chain_words.specs.declared.given.Given.{Given}
-use Rattle.chain_words.specs.declared.given.Placed.{Placed}
+use Rattle.chain_words.specs.declared.given.OutputFile.{OutputFile}
 use Rattle.chain_words.specs.declared.draft.Part.{Part}
 use Rattle.chain_words.specs.declared.draft.Part.TheVariants as part
 use Rattle.chain_words.specs.declared.draft.Draft.{Draft}
@@ -50,7 +50,7 @@ record Sound (given : Given) (step : Step × Option Output) : Type 0 where
   output : HasItsOutput step.0 step.1
 
 -- a plain output has the name that is given, and is plain
-plain_sound : (file : Option Placed) (output : Option Output) → plain_output file ≡ Ok output → (output_names output ≡ names_of (option_list file)) × IsPlain output
+plain_sound : (file : Option OutputFile) (output : Option Output) → plain_output file ≡ Ok output → (output_names output ≡ names_of (option_list file)) × IsPlain output
 plain_sound None output is = subst (λ o. (output_names o ≡ []) × IsPlain o) (ok_is None output is) (refl, tt)
 plain_sound (Some file) output is = by_format (format_of_name file.name) refl is
   where
@@ -83,7 +83,7 @@ step_sound command.Relax at given told is = plain_step given Relax told (λ outp
 step_sound command.Reduce at given told is = plain_step given (Reduce (unwrap_or given.preserve false)) told (λ output plain. plain) (λ output. tt) (inl refl) is
 step_sound command.Convert at given told is = by_file given.output refl is
   where
-    by_format : (file : Placed) → given.output ≡ Some file → (format : Option Format) → then_read (output_to file format (unwrap_or given.check true)) (λ output. Ok (Convert, Some output)) ≡ Ok told → Sound given told
+    by_format : (file : OutputFile) → given.output ≡ Some file → (format : Option Format) → then_read (output_to file format (unwrap_or given.check true)) (λ output. Ok (Convert, Some output)) ≡ Ok told → Sound given told
     by_format file named (Some format) is =
         subst (Sound given) (ok_is (Convert, Some (record { name = file.name; format = format; check = unwrap_or given.check true })) told is) (record {
           names = sym (ap (λ o. names_of (option_list o)) named);
@@ -93,7 +93,7 @@ step_sound command.Convert at given told is = by_file given.output refl is
         })
     by_format file named None is = ok_not _ told is
 
-    by_file : (file : Option Placed) → given.output ≡ file → converted at file given.format given.check ≡ Ok told → Sound given told
+    by_file : (file : Option OutputFile) → given.output ≡ file → converted at file given.format given.check ≡ Ok told → Sound given told
     by_file None named is = ok_not _ told is
     by_file (Some file) named is = by_format file named (or_else given.format (format_of_name file.name)) is
 
@@ -178,7 +178,7 @@ record Fine (draft : Draft) : Type 0 where
   before : IsFine draft.part
 
 -- what is known of a chain, behind a step that ends
-record Ended (outputs : List Placed) (after : Chain) : Type 0 where
+record Ended (outputs : List OutputFile) (after : Chain) : Type 0 where
   whole : IsWhole after
   formats : FormatsFollowNames after
   written : names_of outputs ≡ written_names after
@@ -262,7 +262,7 @@ fine_turn draft at word after fine is =
 pub record AcceptedChain (told : Chain) : Type 0 where
   pub whole : IsWhole told
   pub formats : FormatsFollowNames told
-  pub outputs : List Placed
+  pub outputs : List OutputFile
   pub names : names_of outputs ≡ written_names told
   pub quiet : first_clash told outputs ≡ None
 

@@ -24,7 +24,7 @@ use Rattle.chain_words.specs.declared.table.OptionWord.TheVariants as option
 use Rattle.chain_words.specs.declared.setting.Setting.{Setting}
 use Rattle.chain_words.specs.declared.setting.Setting.TheVariants as setting
 use Rattle.chain_words.specs.declared.given.Given.{Given}
-use Rattle.chain_words.specs.declared.given.Placed.{Placed}
+use Rattle.chain_words.specs.declared.given.OutputFile.{OutputFile}
 use Rattle.chain_words.specs.declared.draft.Part.{Part}
 use Rattle.chain_words.specs.declared.draft.Part.TheVariants as part
 use Rattle.chain_words.specs.declared.draft.Draft.{Draft}
@@ -84,7 +84,7 @@ length-name_options o [] = refl
 length-name_options o (name ∷ names) = ap suc (length-name_options o names)
 
 -- a plain output is spelled where it is given
-plain_short : (file : Option Placed) (output : Option Output) → plain_output file ≡ Ok output → length (output_options output) ≤ there file
+plain_short : (file : Option OutputFile) (output : Option Output) → plain_output file ≡ Ok output → length (output_options output) ≤ there file
 plain_short None output is = subst (λ o. length (output_options o) ≤ 0) (ok_is None output is) (omega arith)
 plain_short (Some file) None is = omega arith
 plain_short (Some file) (Some output) is = omega arith
@@ -142,7 +142,7 @@ step_short command.Convert at given told is = by_file given.output refl is
         let known : tells (format_of_name name) format ≡ true = ap (λ f. tells f format) is ∙ itself in
         not_spelled (tells (format_of_name name) format) (option.Format, format_word format) known
 
-    by_format : (file : Placed) → given.output ≡ Some file → (format : Option Format) → or_else given.format (format_of_name file.name) ≡ format → then_read (output_to file format (unwrap_or given.check true)) (λ output. Ok (Convert, Some output)) ≡ Ok told → IsShort given told
+    by_format : (file : OutputFile) → given.output ≡ Some file → (format : Option Format) → or_else given.format (format_of_name file.name) ≡ format → then_read (output_to file format (unwrap_or given.check true)) (λ output. Ok (Convert, Some output)) ≡ Ok told → IsShort given told
     by_format file placed (Some format) known is =
         let o : there given.output ≡ 1 = ap there placed in
         let made : Output = record { name = file.name; format = format; check = unwrap_or given.check true } in
@@ -150,7 +150,7 @@ step_short command.Convert at given told is = by_file given.output refl is
         (omega (arith, o, formatted file.name given.format format (unwrap_or given.check true) known, checked given.check, length-append (format_options made) (check_options made.check)))
     by_format file placed None known is = ok_not _ told is
 
-    by_file : (file : Option Placed) → given.output ≡ file → converted at file given.format given.check ≡ Ok told → IsShort given told
+    by_file : (file : Option OutputFile) → given.output ≡ file → converted at file given.format given.check ≡ Ok told → IsShort given told
     by_file None placed is = ok_not _ told is
     by_file (Some file) placed is = by_format file placed (or_else given.format (format_of_name file.name)) refl is
 

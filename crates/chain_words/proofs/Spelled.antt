@@ -25,7 +25,7 @@ use Rattle.chain_words.specs.declared.table.OptionWord.TheVariants as option
 use Rattle.chain_words.specs.declared.setting.Setting.{Setting}
 use Rattle.chain_words.specs.declared.setting.Setting.TheVariants as setting
 use Rattle.chain_words.specs.declared.given.Given.{Given}
-use Rattle.chain_words.specs.declared.given.Placed.{Placed}
+use Rattle.chain_words.specs.declared.given.OutputFile.{OutputFile}
 use Rattle.chain_words.specs.declared.draft.Part.{Part}
 use Rattle.chain_words.specs.declared.draft.Part.TheVariants as part
 use Rattle.chain_words.specs.declared.draft.Draft.{Draft}
@@ -58,7 +58,7 @@ names_of_both : (xs ys : List Name) → names (xs ++ ys) → names xs × names y
 names_of_both xs ys all = and_both (list_all is_name xs) (list_all is_name ys) (rw list_all-append at all)
 
 -- an output at a place
-abbrev placed_at : ℕ → Option Output → Option Placed
+abbrev placed_at : ℕ → Option Output → Option OutputFile
 placed_at at None = None
 placed_at at (Some file) = Some (record { at = at; name = file.name })
 
@@ -77,11 +77,11 @@ name_told : (o : OptionWord) (made : Name → Setting) (name : Name) → ((w : W
 name_told o made name each is = each name ∙ ap (λ b. option_map made (cond b (Some name) None)) is
 
 -- a draft at an option's place
-abbrev reading : Part → ℕ → List Placed → Given → Draft
+abbrev reading : Part → ℕ → List OutputFile → Given → Draft
 reading here at outputs given = record { part = here; at = at; given = given; outputs = outputs; asked = None }
 
 -- the options that spell an output are read
-output_scan : (told : Command) (here : Part) (place : ℕ) (outputs : List Placed) (given : Given) (output : Option Output) (at : ℕ) (rest : List Word) → option_of here (option_word option.Output) ≡ Some option.Output → names (output_names output) → ((i j : ℕ) → scan (reading here place outputs (record given { output = placed_at i output })) j rest ≡ Ok told) → scan (reading here place outputs (record given { output = None })) at (spelled (output_options output) ++ rest) ≡ Ok told
+output_scan : (told : Command) (here : Part) (place : ℕ) (outputs : List OutputFile) (given : Given) (output : Option Output) (at : ℕ) (rest : List Word) → option_of here (option_word option.Output) ≡ Some option.Output → names (output_names output) → ((i j : ℕ) → scan (reading here place outputs (record given { output = placed_at i output })) j rest ≡ Ok told) → scan (reading here place outputs (record given { output = None })) at (spelled (output_options output) ++ rest) ≡ Ok told
 output_scan told here place outputs given None at rest found named next = next 0 at
 output_scan told here place outputs given (Some file) at rest found named next =
     setting_given (reading here place outputs (record given { output = None })) at option.Output file.name (setting.Output file.name) rest refl (record {
@@ -118,18 +118,18 @@ told_is (Some Obo) Ofn is = absurd cc
 told_is (Some Ofn) Obo is = absurd cc
 
 -- what is to follow behind the options of a step
-abbrev Follows : Command → Chain → ℕ → List Placed → Step → Option Output → List Word → Type 0
+abbrev Follows : Command → Chain → ℕ → List OutputFile → Step → Option Output → List Word → Type 0
 Follows told before place outputs step output rest =
     (given : Given) (i j : ℕ) → step_of (step_command step) place given ≡ Ok (step, output) → given.output ≡ placed_at i output → scan (reading (part.Step before (step_command step)) place outputs given) j rest ≡ Ok told
 
 -- the options that spell a step with a plain output
-plain_scan : (told : Command) (before : Chain) (place : ℕ) (outputs : List Placed) (step : Step) (given : Given) (output : Option Output) (at : ℕ) (rest : List Word) → option_of (part.Step before (step_command step)) (option_word option.Output) ≡ Some option.Output → IsPlain output → names (output_names output) → ((file : Option Placed) → plain_output file ≡ Ok output → step_of (step_command step) place (record given { output = file }) ≡ Ok (step, output)) → Follows told before place outputs step output rest → scan (reading (part.Step before (step_command step)) place outputs (record given { output = None })) at (spelled (output_options output) ++ rest) ≡ Ok told
+plain_scan : (told : Command) (before : Chain) (place : ℕ) (outputs : List OutputFile) (step : Step) (given : Given) (output : Option Output) (at : ℕ) (rest : List Word) → option_of (part.Step before (step_command step)) (option_word option.Output) ≡ Some option.Output → IsPlain output → names (output_names output) → ((file : Option OutputFile) → plain_output file ≡ Ok output → step_of (step_command step) place (record given { output = file }) ≡ Ok (step, output)) → Follows told before place outputs step output rest → scan (reading (part.Step before (step_command step)) place outputs (record given { output = None })) at (spelled (output_options output) ++ rest) ≡ Ok told
 plain_scan told before place outputs step given output at rest found plain named means next =
     output_scan told (part.Step before (step_command step)) place outputs given output at rest found named
     (λ i j. next (record given { output = placed_at i output }) i j (means (placed_at i output) (plain_told i output plain)) refl)
 
 -- the options that spell a step are read
-step_scan : (told : Command) (before : Chain) (place : ℕ) (outputs : List Placed) (step : Step) (output : Option Output) (at : ℕ) (rest : List Word) → Good (step, output) → Follows told before place outputs step output rest → scan (reading (part.Step before (step_command step)) place outputs nothing) at (spelled (step_settings step output) ++ rest) ≡ Ok told
+step_scan : (told : Command) (before : Chain) (place : ℕ) (outputs : List OutputFile) (step : Step) (output : Option Output) (at : ℕ) (rest : List Word) → Good (step, output) → Follows told before place outputs step output rest → scan (reading (part.Step before (step_command step)) place outputs nothing) at (spelled (step_settings step output) ++ rest) ≡ Ok told
 step_scan told before place outputs (Extract method terms) output at rest good next =
     let here : Part = part.Step before command.Extract in
     let first : Given = record nothing { method = Some method } in
@@ -163,7 +163,7 @@ step_scan told before place outputs Convert (Some file) at rest good next =
     here : Part
     here = part.Step before command.Convert
 
-    placed : Option Placed
+    placed : Option OutputFile
     placed = Some (record { at = at + 1; name = file.name })
 
     means : (format : Option Format) (check : Option Bool) → or_else format (format_of_name file.name) ≡ Some file.format → unwrap_or check true ≡ file.check → converted place placed format check ≡ Ok (Convert, Some file)
@@ -196,7 +196,7 @@ command_is command.Reduce = refl
 command_is command.Convert = refl
 
 -- the words that spell the later steps are read
-steps_scan : (final : Chain) → ((outputs : List Placed) → names_of outputs ≡ written_names final → first_clash final outputs ≡ None) → (steps : List (Step × Option Output)) (before : Chain) (draft : Draft) (at : ℕ) → record before { steps = before.steps ++ steps } ≡ final → AllGood steps → length before.steps + length steps ≤ 63 → draft.asked ≡ None → ended draft.part draft.at draft.given ≡ Ok before → names_of (all_outputs draft) ≡ written_names before → scan draft at (flat_map step_words steps) ≡ Ok (Run final)
+steps_scan : (final : Chain) → ((outputs : List OutputFile) → names_of outputs ≡ written_names final → first_clash final outputs ≡ None) → (steps : List (Step × Option Output)) (before : Chain) (draft : Draft) (at : ℕ) → record before { steps = before.steps ++ steps } ≡ final → AllGood steps → length before.steps + length steps ≤ 63 → draft.asked ≡ None → ended draft.part draft.at draft.given ≡ Ok before → names_of (all_outputs draft) ≡ written_names before → scan draft at (flat_map step_words steps) ≡ Ok (Run final)
 steps_scan final apart [] before draft at is good few free ends outputs =
     let e : before ≡ final = sym (ap (λ s. record before { steps = s }) (append-nil before.steps)) ∙ is in
     ap (λ a. at_end a draft) free
@@ -295,7 +295,7 @@ spelled_is_read final good =
     written_all : names (output_names final.first) × names (flat_map writes_of final.steps)
     written_all = names_of_both (output_names final.first) (flat_map writes_of final.steps) good.whole.written
 
-    apart : (outputs : List Placed) → names_of outputs ≡ written_names final → first_clash final outputs ≡ None
+    apart : (outputs : List OutputFile) → names_of outputs ≡ written_names final → first_clash final outputs ≡ None
     apart outputs is = quiet final outputs (λ name. subst (λ ns. times name ns ≤ 1) (sym is) (good.once name)) (λ name some. good.apart name (counts_any name (written_names final) (subst (λ ns. 1 ≤ times name ns) is some)))
 
     first : Chain

@@ -6,15 +6,15 @@ use Rattle.chain_words.specs.Fault.{Bad}
 use Rattle.chain_words.specs.Command.{is_one_of, read_names}
 use Rattle.chain_words.specs.declared.fault.WordKind.{WordKind}
 use Rattle.chain_words.specs.declared.fault.WordKind.TheVariants.{OutputIsInput, OutputTwice}
-use Rattle.chain_words.specs.declared.given.Placed.{Placed}
+use Rattle.chain_words.specs.declared.given.OutputFile.{OutputFile}
 use Rattle.chain_words.specs.declared.command.Chain.{Chain}
 
 -- whether one of these outputs has this name
-abbrev pub is_placed : Name → List Placed → Bool
+abbrev pub is_placed : Name → List OutputFile → Bool
 is_placed name outputs = list_any (λ file. same file.name name) outputs
 
 -- what is wrong with the name of an output of a chain, behind the outputs before it
-abbrev pub clash : Chain → List Placed → Placed → Option WordKind
+abbrev pub clash : Chain → List OutputFile → OutputFile → Option WordKind
 clash chain earlier file =
     if is_one_of file.name (read_names chain) then Some OutputIsInput
     else (if is_placed file.name earlier then Some OutputTwice else None)
@@ -25,10 +25,10 @@ or_later (Some kind) at later = Some (record { index = at; kind = kind })
 or_later None at later = later
 
 -- the first output of these that clashes
-abbrev pub clash_from : Chain → List Placed → List Placed → Option Bad
+abbrev pub clash_from : Chain → List OutputFile → List OutputFile → Option Bad
 clash_from chain earlier [] = None
 clash_from chain earlier (file ∷ rest) = or_later (clash chain earlier file) file.at (clash_from chain (earlier ++ file ∷ []) rest)
 
 -- the first of the outputs of a chain whose name is taken
-abbrev pub first_clash : Chain → List Placed → Option Bad
+abbrev pub first_clash : Chain → List OutputFile → Option Bad
 first_clash chain outputs = clash_from chain [] outputs

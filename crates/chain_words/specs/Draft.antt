@@ -16,7 +16,7 @@ use Rattle.chain_words.specs.declared.table.StepWord.{StepWord}
 use Rattle.chain_words.specs.declared.table.OptionWord.{OptionWord}
 use Rattle.chain_words.specs.declared.setting.Setting.{Setting}
 use Rattle.chain_words.specs.declared.given.Given.{Given}
-use Rattle.chain_words.specs.declared.given.Placed.{Placed}
+use Rattle.chain_words.specs.declared.given.OutputFile.{OutputFile}
 use Rattle.chain_words.specs.declared.draft.Part.{Part}
 use Rattle.chain_words.specs.declared.draft.Part.TheVariants.{Merge, Step}
 use Rattle.chain_words.specs.declared.draft.Draft.{Draft}
@@ -69,16 +69,16 @@ next_command command.Generate steps = Err NotHere
 next_command (command.Step step) steps = if nat_le most_commands (steps + 1) then Err TooMany else Ok step
 
 -- a step begins behind a chain
-abbrev pub step_begun : List Placed → Result StepWord WordKind → ℕ → Chain → Reading Draft
+abbrev pub step_begun : List OutputFile → Result StepWord WordKind → ℕ → Chain → Reading Draft
 step_begun outputs (Ok command) at chain = Ok (record { part = Step chain command; at = at; given = nothing; outputs = outputs; asked = None })
 step_begun outputs (Err kind) at chain = bad at kind
 
 -- a step of this command begins, behind the steps of a chain
-abbrev pub begun : List Placed → CommandWord → ℕ → Chain → Reading Draft
+abbrev pub begun : List OutputFile → CommandWord → ℕ → Chain → Reading Draft
 begun outputs command at chain = step_begun outputs (next_command command (length chain.steps)) at chain
 
 -- the outputs of all steps so far
-abbrev pub all_outputs : Draft → List Placed
+abbrev pub all_outputs : Draft → List OutputFile
 all_outputs draft = draft.outputs ++ option_list draft.given.output
 
 -- a command word: the step before it ends

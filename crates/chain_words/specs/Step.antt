@@ -5,7 +5,7 @@ use Rattle.chain_words.specs.Word.{Name}
 use Rattle.chain_words.specs.Fault.{Reading, bad, then_read}
 use Rattle.chain_words.specs.declared.fault.WordKind.TheVariants.{MissingOption, NoFormat}
 use Rattle.chain_words.specs.declared.given.Given.{Given}
-use Rattle.chain_words.specs.declared.given.Placed.{Placed}
+use Rattle.chain_words.specs.declared.given.OutputFile.{OutputFile}
 use Rattle.chain_words.specs.declared.table.StepWord.{StepWord}
 use Rattle.chain_words.specs.declared.table.StepWord.TheVariants as command
 use Rattle.chain_words.specs.declared.command.Method.{Method}
@@ -28,26 +28,26 @@ or_else None other = other
 or_else (Some value) other = Some value
 
 -- the output in this file; a name without a format is a bad word
-abbrev pub output_to : Placed → Option Format → Bool → Reading Output
+abbrev pub output_to : OutputFile → Option Format → Bool → Reading Output
 output_to file (Some format) check = Ok (record { name = file.name; format = format; check = check })
 output_to file None check = bad file.at NoFormat
 
 -- the output of a step that is no `convert`, if it has one: its name tells its format, and it is checked
-abbrev pub plain_output : Option Placed → Reading (Option Output)
+abbrev pub plain_output : Option OutputFile → Reading (Option Output)
 plain_output None = Ok None
 plain_output (Some file) = then_read (output_to file (format_of_name file.name) true) (λ output. Ok (Some output))
 
 -- a step that is no `convert`, with its output
-abbrev pub with_plain_output : Step → Option Placed → Reading (Step × Option Output)
+abbrev pub with_plain_output : Step → Option OutputFile → Reading (Step × Option Output)
 with_plain_output step file = then_read (plain_output file) (λ output. Ok (step, output))
 
 -- `extract` needs a method and a term file
-abbrev pub extracted : ℕ → Option Method → Option Name → Option Placed → Reading (Step × Option Output)
+abbrev pub extracted : ℕ → Option Method → Option Name → Option OutputFile → Reading (Step × Option Output)
 extracted at (Some method) (Some terms) file = with_plain_output (Extract method terms) file
 extracted at method terms file = bad at MissingOption
 
 -- `convert` needs an output, of which it may choose the format and the check
-abbrev pub converted : ℕ → Option Placed → Option Format → Option Bool → Reading (Step × Option Output)
+abbrev pub converted : ℕ → Option OutputFile → Option Format → Option Bool → Reading (Step × Option Output)
 converted at None format check = bad at MissingOption
 converted at (Some file) format check =
     then_read (output_to file (or_else format (format_of_name file.name)) (unwrap_or check true)) (λ output. Ok (Convert, Some output))

@@ -6,7 +6,7 @@ ghost use Rattle.chain_words.specs.inner.Answers.{Tells};
 ghost use Rattle.chain_words.specs.Command.{is_one_of, read_names, reads_of};
 ghost use Rattle.chain_words.specs.Given.{option_list};
 
-use crate::given::Placed;
+use crate::given::OutputFile;
 use crate::{Chain, Output, Step, WordFault, WordKind};
 use rel_io::Bytes;
 
@@ -55,14 +55,14 @@ fn is_read(name: &[u8], chain: &Chain) -> bool
 }
 
 /// Whether one of these outputs has this name.
-fn is_placed(name: &[u8], outputs: &[Placed]) -> bool
+fn is_placed(name: &[u8], outputs: &[OutputFile]) -> bool
     ensures { result ≡ is_placed name.now outputs.now }
 {
     outputs.iter().any(|file| file.name.as_slice() == name)
 }
 
 /// What is wrong with the name of an output of a chain, behind the outputs before it.
-fn clash(chain: &Chain, earlier: &[Placed], file: &Placed) -> Option<WordKind>
+fn clash(chain: &Chain, earlier: &[OutputFile], file: &OutputFile) -> Option<WordKind>
     ensures { result ≡ clash chain.now earlier.now file.now }
 {
     let name = file.name.as_slice();
@@ -77,7 +77,7 @@ fn clash(chain: &Chain, earlier: &[Placed], file: &Placed) -> Option<WordKind>
 
 /// The first name of an output that is taken. A chain has at most 64 outputs and reads at most 511 files, so looking
 /// through all of them for each output is bounded, and two names of different lengths are not compared.
-pub fn first_clash(chain: &Chain, outputs: &[Placed]) -> Option<WordFault>
+pub fn first_clash(chain: &Chain, outputs: &[OutputFile]) -> Option<WordFault>
     ensures { Tells (first_clash chain.now outputs.now) result }
 {
     for (index, file) in outputs.iter().enumerate() {

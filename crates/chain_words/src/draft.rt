@@ -11,7 +11,7 @@ ghost use Rattle.chain_words.specs.declared.draft.Draft.{Draft};
 
 use crate::clash::first_clash;
 use crate::fault::bad;
-use crate::given::{Given, Placed, nothing, stands_again, with_output, with_setting};
+use crate::given::{Given, OutputFile, nothing, stands_again, with_output, with_setting};
 use crate::setting::{Setting, setting_of};
 use crate::step::{followed, merged};
 use crate::table::{CommandWord, OptionWord, StepWord, command_of, merge_options, step_options};
@@ -56,7 +56,7 @@ pub struct Draft {
     /// What the step is given.
     pub given: Given,
     /// The outputs of the steps before it, in order.
-    pub outputs: Items<Placed>,
+    pub outputs: Items<OutputFile>,
     /// The option whose value the next word is, if there is one.
     pub asked: Option<Asked>,
 }
@@ -169,7 +169,7 @@ fn next_command(command: CommandWord, steps: usize) -> Result<StepWord, WordKind
 /// A step of this command begins, behind the steps of a chain.
 fn begun(
     alloc: Global,
-    outputs: Items<Placed>,
+    outputs: Items<OutputFile>,
     command: CommandWord,
     at: u32,
     chain: Chain,
@@ -249,7 +249,7 @@ pub fn turn(alloc: Global, draft: Draft, at: u32, word: &[u8]) -> Result<Draft, 
 }
 
 /// A chain whose outputs have names of their own.
-fn tested(chain: Chain, outputs: &[Placed]) -> Result<Command, WordFault>
+fn tested(chain: Chain, outputs: &[OutputFile]) -> Result<Command, WordFault>
     ensures { Answers (tested chain (first_clash chain outputs.now)) result }
 {
     match first_clash(&chain, outputs) {

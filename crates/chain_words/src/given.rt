@@ -12,7 +12,7 @@ use std::alloc::Global;
 
 /// The name of an output, and where it stands.
 #[derive(Drop)]
-pub struct Placed {
+pub struct OutputFile {
     /// Its index among the words.
     pub at: u32,
     /// The name.
@@ -29,7 +29,7 @@ pub struct Given {
     /// The term file.
     pub terms: Option<Bytes>,
     /// The file that the step writes.
-    pub output: Option<Placed>,
+    pub output: Option<OutputFile>,
     /// How the module is chosen.
     pub method: Option<Method>,
     /// Whether axioms with annotations stay.
@@ -114,7 +114,7 @@ pub fn with_setting(mut given: Given, setting: Setting, at: u32) -> Result<Given
         Setting::Input(name) => return with_input(given, name),
         Setting::Catalog(name) => given.catalog = Some(name),
         Setting::TermFile(name) => given.terms = Some(name),
-        Setting::Output(name) => given.output = Some(Placed { at, name }),
+        Setting::Output(name) => given.output = Some(OutputFile { at, name }),
         Setting::Method(method) => given.method = Some(method),
         Setting::Preserve(keep) => given.preserve = Some(keep),
         Setting::Format(format) => given.format = Some(format),
@@ -126,16 +126,16 @@ pub fn with_setting(mut given: Given, setting: Setting, at: u32) -> Result<Given
 /// The outputs with that of one more step, if it has one.
 pub fn with_output(
     alloc: Global,
-    outputs: Items<Placed>,
-    output: &Option<Placed>,
-) -> Result<Items<Placed>, NoMemory>
+    outputs: Items<OutputFile>,
+    output: &Option<OutputFile>,
+) -> Result<Items<OutputFile>, NoMemory>
     ensures { IfOk result (λ more. more ≡ outputs ++ option_list output.now) }
 {
     let Some(file) = output else {
         return Ok(outputs);
     };
     match file.name.copy(alloc) {
-        Ok(name) => pushed(outputs, Placed { at: file.at, name }),
+        Ok(name) => pushed(outputs, OutputFile { at: file.at, name }),
         Err(NoMemory) => {
             drop(outputs);
             Err(NoMemory)

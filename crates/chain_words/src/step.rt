@@ -4,7 +4,7 @@ ghost use Rattle.chain_words.specs.inner.Answers.{Answers};
 ghost use Rattle.chain_words.specs.Step.{converted, extracted, followed, format_of_name, merged, output_to, plain_output, step_of, with_plain_output};
 
 use crate::fault::bad;
-use crate::given::{Given, Placed};
+use crate::given::{Given, OutputFile};
 use crate::lists::pushed;
 use crate::table::StepWord;
 use crate::{Chain, Format, Method, Output, Step, WordFault, WordKind};
@@ -25,10 +25,10 @@ fn format_of_name(name: &[u8]) -> Option<Format>
 }
 
 /// The output in this file, where it has a format.
-fn output_to(file: Placed, format: Option<Format>, check: bool) -> Result<Output, WordFault>
+fn output_to(file: OutputFile, format: Option<Format>, check: bool) -> Result<Output, WordFault>
     ensures { Answers (output_to file format check) result }
 {
-    let Placed { at, name } = file;
+    let OutputFile { at, name } = file;
     match format {
         None => {
             drop(name);
@@ -43,7 +43,7 @@ fn output_to(file: Placed, format: Option<Format>, check: bool) -> Result<Output
 }
 
 /// The output of a step that is no `convert`, if it has one.
-fn plain_output(file: Option<Placed>) -> Result<Option<Output>, WordFault>
+fn plain_output(file: Option<OutputFile>) -> Result<Option<Output>, WordFault>
     ensures { Answers (plain_output file) result }
 {
     match file {
@@ -59,7 +59,10 @@ fn plain_output(file: Option<Placed>) -> Result<Option<Output>, WordFault>
 }
 
 /// A step that is no `convert`, with its output.
-fn with_plain_output(step: Step, file: Option<Placed>) -> Result<(Step, Option<Output>), WordFault>
+fn with_plain_output(
+    step: Step,
+    file: Option<OutputFile>,
+) -> Result<(Step, Option<Output>), WordFault>
     ensures { Answers (with_plain_output step file) result }
 {
     match plain_output(file) {
@@ -76,7 +79,7 @@ fn extracted(
     at: u32,
     method: Option<Method>,
     terms: Option<Bytes>,
-    file: Option<Placed>,
+    file: Option<OutputFile>,
 ) -> Result<(Step, Option<Output>), WordFault>
     ensures { Answers (extracted at method terms file) result }
 {
@@ -93,7 +96,7 @@ fn extracted(
 /// What `convert` means: it needs an output, of which it may choose the format and the check.
 fn converted(
     at: u32,
-    file: Option<Placed>,
+    file: Option<OutputFile>,
     format: Option<Format>,
     check: Option<bool>,
 ) -> Result<(Step, Option<Output>), WordFault>

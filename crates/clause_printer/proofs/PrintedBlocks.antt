@@ -9,7 +9,7 @@ use Rattle.obo_lexer.specs.Tokens.{is_blank}
 use Rattle.obo_clause.specs.declared.clause.Qualifier.{Qualifier}
 use Rattle.obo_clause.specs.Grammar.{AreBlanks, AreQualifiers, IsBlock, IsComment, IsEnding, IsKey, IsQualifier, IsQuoted}
 use Rattle.obo_clause.specs.Grammar as grammar
-use Rattle.obo_clause.specs.declared.mark.Mark.{Mark}
+use Rattle.obo_clause.specs.declared.mark.MarkedByte.{MarkedByte}
 use Rattle.obo_clause.specs.Marks.{bare, read_as}
 use Rattle.obo_clause.specs.Fits.{FitsQualifier}
 use Rattle.clause_printer.specs.Printing.{block_text, qualifier_text, quoted_text}
@@ -56,8 +56,8 @@ prints_key qualifier fits =
 
 -- ---- qualifiers
 
-abbrev IsBehindKey : Qualifier → List Mark → Type 0
-IsBehindKey qualifier marks = (value : List Mark) × (marks ≡ equals ∷ value) × IsQuoted value qualifier.value
+abbrev IsBehindKey : Qualifier → List MarkedByte → Type 0
+IsBehindKey qualifier marks = (value : List MarkedByte) × (marks ≡ equals ∷ value) × IsQuoted value qualifier.value
 
 prints_behind_key : (qualifier : Qualifier) → FitsQualifier qualifier → Prints (IsBehindKey qualifier) (61 ∷ quoted_text qualifier.value)
 prints_behind_key qualifier fits =
@@ -85,16 +85,16 @@ abbrev other_qualifiers : List Qualifier → List ℕ
 other_qualifiers qualifiers = flat_map (λ qualifier. codes ", " ++ qualifier_text qualifier) qualifiers
 
 -- a comma, blanks and qualifiers
-record AreBehindComma (qualifiers : List Qualifier) (marks : List Mark) : Type 0 where
-  blanks : List Mark
-  rest : List Mark
+record AreBehindComma (qualifiers : List Qualifier) (marks : List MarkedByte) : Type 0 where
+  blanks : List MarkedByte
+  rest : List MarkedByte
   whole : marks ≡ comma ∷ (blanks ++ rest)
   blank : AreBlanks blanks
   are : AreQualifiers rest qualifiers
 
-more_qualifiers : (qualifier : Qualifier) (others : List Qualifier) (marks more : List Mark) → IsQualifier marks qualifier → AreBehindComma others more → AreQualifiers (marks ++ more) (qualifier ∷ others)
+more_qualifiers : (qualifier : Qualifier) (others : List Qualifier) (marks more : List MarkedByte) → IsQualifier marks qualifier → AreBehindComma others more → AreQualifiers (marks ++ more) (qualifier ∷ others)
 more_qualifiers qualifier others marks more one are =
-    subst (λ (l : List Mark). AreQualifiers l (qualifier ∷ others)) (ap (λ l. l ++ comma ∷ (are.blanks ++ are.rest)) (append-nil marks) ∙ ap (λ l. marks ++ l) (sym are.whole))
+    subst (λ (l : List MarkedByte). AreQualifiers l (qualifier ∷ others)) (ap (λ l. l ++ comma ∷ (are.blanks ++ are.rest)) (append-nil marks) ∙ ap (λ l. marks ++ l) (sym are.whole))
     (grammar.AreQualifiers.more marks [] are.blanks are.rest qualifier others one (All-nil (λ mark. is_space mark ≡ true)) are.blank are.are)
 
 prints_qualifiers : (qualifier : Qualifier) (others : List Qualifier) → FitsQualifier qualifier → All FitsQualifier others → Prints (λ marks. AreQualifiers marks (qualifier ∷ others)) (qualifier_text qualifier ++ other_qualifiers others)
@@ -106,21 +106,21 @@ prints_qualifiers qualifier (next ∷ others) fits all =
     let later = prints_qualifiers next others (All-head FitsQualifier next others all) (All-tail FitsQualifier next others all) in
     Prints-append (λ marks. IsQualifier marks qualifier) (AreBehindComma (next ∷ others)) (λ marks. AreQualifiers marks (qualifier ∷ next ∷ others))
     (qualifier_text qualifier) (other_qualifiers (next ∷ others)) (more_qualifiers qualifier (next ∷ others)) (prints_qualifier qualifier fits)
-    (Prints-append (Are (comma ∷ [])) (λ marks. (blanks : List Mark) × (rest : List Mark) × (marks ≡ blanks ++ rest) × AreBlanks blanks × AreQualifiers rest (next ∷ others)) (AreBehindComma (next ∷ others)) (44 ∷ []) _
+    (Prints-append (Are (comma ∷ [])) (λ marks. (blanks : List MarkedByte) × (rest : List MarkedByte) × (marks ≡ blanks ++ rest) × AreBlanks blanks × AreQualifiers rest (next ∷ others)) (AreBehindComma (next ∷ others)) (44 ∷ []) _
     (λ ms ns one behind. record { blanks = behind.0; rest = behind.1; whole = ap (λ l. l ++ ns) one ∙ ap (λ l. comma ∷ l) behind.2; blank = behind.3; are = behind.4 })
     prints_comma
-    (Prints-append AreBlanks (λ marks. AreQualifiers marks (next ∷ others)) (λ marks. (blanks : List Mark) × (rest : List Mark) × (marks ≡ blanks ++ rest) × AreBlanks blanks × AreQualifiers rest (next ∷ others)) (codes " ") _
+    (Prints-append AreBlanks (λ marks. AreQualifiers marks (next ∷ others)) (λ marks. (blanks : List MarkedByte) × (rest : List MarkedByte) × (marks ≡ blanks ++ rest) × AreBlanks blanks × AreQualifiers rest (next ∷ others)) (codes " ") _
     (λ ms ns blank are. (ms, ns, refl, blank, are)) prints_blanks later))
 
 -- ---- blocks
 
-abbrev IsBehindOpen : List Qualifier → List Mark → Type 0
-IsBehindOpen qualifiers marks = (inside : List Mark) × (marks ≡ inside ++ block_close ∷ []) × AreQualifiers inside qualifiers
+abbrev IsBehindOpen : List Qualifier → List MarkedByte → Type 0
+IsBehindOpen qualifiers marks = (inside : List MarkedByte) × (marks ≡ inside ++ block_close ∷ []) × AreQualifiers inside qualifiers
 
-block_of : (qualifiers : List Qualifier) (ms ns : List Mark) → ms ≡ block_open ∷ [] → IsBehindOpen qualifiers ns → IsEnding (ms ++ ns) qualifiers
+block_of : (qualifiers : List Qualifier) (ms ns : List MarkedByte) → ms ≡ block_open ∷ [] → IsBehindOpen qualifiers ns → IsEnding (ms ++ ns) qualifiers
 block_of qualifiers ms ns begun ended =
     let block = ms ++ ns in
-    subst (λ (l : List Mark). IsEnding l qualifiers) (append-nil (block ++ []) ∙ append-nil block)
+    subst (λ (l : List MarkedByte). IsEnding l qualifiers) (append-nil (block ++ []) ∙ append-nil block)
     (grammar.IsEnding.qualified block [] [] qualifiers (record {
       before = [];
       inside = ended.0;

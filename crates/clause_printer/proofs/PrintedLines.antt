@@ -17,7 +17,7 @@ use Rattle.obo_clause.specs.declared.clause.Value.TheVariants as value
 use Rattle.obo_clause.specs.declared.clause.Xref.{Xref}
 use Rattle.obo_clause.specs.Grammar as grammar
 use Rattle.obo_clause.specs.Grammar.{AreBlanks, IsComment, IsEnding, IsQuoted, IsWord, IsXrefList}
-use Rattle.obo_clause.specs.declared.mark.Mark.{Mark}
+use Rattle.obo_clause.specs.declared.mark.MarkedByte.{MarkedByte}
 use Rattle.obo_clause.specs.Marks.{marks_of}
 use Rattle.rel_io.specs.Texts.{IsText, IsWordText}
 use Rattle.obo_clause.specs.Fits.{FitBehind, Fits, FitsQualifier, FitsShape, FitsXref, IsRawText, IsWordOrNone}
@@ -97,44 +97,44 @@ prints_truth false = prints_constant (codes "false") (omega arith) refl refl
 -- ---- one part behind another
 
 -- marks of two kinds, one behind the other
-record Then (P Q : List Mark → Type 0) (marks : List Mark) : Type 0 where
-  first : List Mark
-  second : List Mark
+record Then (P Q : List MarkedByte → Type 0) (marks : List MarkedByte) : Type 0 where
+  first : List MarkedByte
+  second : List MarkedByte
   whole : marks ≡ first ++ second
   left : P first
   right : Q second
 
-then_from : (P Q : List Mark → Type 0) (ms ns : List Mark) → P ms → Q ns → Then P Q (ms ++ ns)
+then_from : (P Q : List MarkedByte → Type 0) (ms ns : List MarkedByte) → P ms → Q ns → Then P Q (ms ++ ns)
 then_from P Q ms ns left right = record { first = ms; second = ns; whole = refl; left = left; right = right }
 
-prints_then : (P Q : List Mark → Type 0) (xs ys : List ℕ) → Prints P xs → Prints Q ys → Prints (Then P Q) (xs ++ ys)
+prints_then : (P Q : List MarkedByte → Type 0) (xs ys : List ℕ) → Prints P xs → Prints Q ys → Prints (Then P Q) (xs ++ ys)
 prints_then P Q xs ys h k = Prints-append P Q (Then P Q) xs ys (then_from P Q) h k
 
-prints_three : (P Q S R : List Mark → Type 0) (xs ys zs : List ℕ) → ((a b c : List Mark) → P a → Q b → S c → R (a ++ b ++ c)) → Prints P xs → Prints Q ys → Prints S zs → Prints R (xs ++ ys ++ zs)
+prints_three : (P Q S R : List MarkedByte → Type 0) (xs ys zs : List ℕ) → ((a b c : List MarkedByte) → P a → Q b → S c → R (a ++ b ++ c)) → Prints P xs → Prints Q ys → Prints S zs → Prints R (xs ++ ys ++ zs)
 prints_three P Q S R xs ys zs joins h k l =
     Prints-append (Then P Q) S R (xs ++ ys) zs
-    (λ ms ns two s. subst (λ (m : List Mark). R (m ++ ns)) (sym two.whole) (joins two.first two.second ns two.left two.right s))
+    (λ ms ns two s. subst (λ (m : List MarkedByte). R (m ++ ns)) (sym two.whole) (joins two.first two.second ns two.left two.right s))
     (prints_then P Q xs ys h k) l
 
-prints_four : (P Q S U R : List Mark → Type 0) (xs ys zs us : List ℕ) → ((a b c d : List Mark) → P a → Q b → S c → U d → R (a ++ b ++ c ++ d)) → Prints P xs → Prints Q ys → Prints S zs → Prints U us → Prints R (xs ++ ys ++ zs ++ us)
+prints_four : (P Q S U R : List MarkedByte → Type 0) (xs ys zs us : List ℕ) → ((a b c d : List MarkedByte) → P a → Q b → S c → U d → R (a ++ b ++ c ++ d)) → Prints P xs → Prints Q ys → Prints S zs → Prints U us → Prints R (xs ++ ys ++ zs ++ us)
 prints_four P Q S U R xs ys zs us joins h k l m =
     prints_three (Then P Q) S U R (xs ++ ys) zs us
-    (λ a c d two s u. subst (λ (n : List Mark). R (n ++ c ++ d)) (sym two.whole) (joins two.first two.second c d two.left two.right s u))
+    (λ a c d two s u. subst (λ (n : List MarkedByte). R (n ++ c ++ d)) (sym two.whole) (joins two.first two.second c d two.left two.right s u))
     (prints_then P Q xs ys h k) l m
 
 -- ---- values
 
 -- the marks are the value, whatever stands behind them
-record IsAnywhere (shape : ValueShape) (one : Value) (marks : List Mark) : Type 0 where
-  is : (behind : List Mark) → IsValue behind shape marks one
+record IsAnywhere (shape : ValueShape) (one : Value) (marks : List MarkedByte) : Type 0 where
+  is : (behind : List MarkedByte) → IsValue behind shape marks one
 
-abbrev Word : List ℕ → List Mark → Type 0
+abbrev Word : List ℕ → List MarkedByte → Type 0
 Word word marks = IsWord marks word
 
-abbrev Quoted : List ℕ → List Mark → Type 0
+abbrev Quoted : List ℕ → List MarkedByte → Type 0
 Quoted text marks = IsQuoted marks text
 
-prints_words : (shape : ValueShape) (one : Value) (first second : List ℕ) → ((behind a b c : List Mark) → IsWord a first → 0 < length b → AreBlanks b → IsWord c second → IsValue behind shape (a ++ b ++ c) one) → IsWordText first → IsWordText second → Prints (IsAnywhere shape one) (word_text first ++ space ++ word_text second)
+prints_words : (shape : ValueShape) (one : Value) (first second : List ℕ) → ((behind a b c : List MarkedByte) → IsWord a first → 0 < length b → AreBlanks b → IsWord c second → IsValue behind shape (a ++ b ++ c) one) → IsWordText first → IsWordText second → Prints (IsAnywhere shape one) (word_text first ++ space ++ word_text second)
 prints_words shape one first second value h k =
     prints_three (Word first) IsGap (Word second) (IsAnywhere shape one) (word_text first) space (word_text second)
     (λ a b c left gap right. record { is = λ behind. value behind a b c left gap.some gap.blank right })
@@ -180,13 +180,13 @@ prints_synonym text one type xrefs h k all =
     (λ a b c quoted scoped more. record { is = λ behind. spelling.IsValue.synonym a b c text one type xrefs quoted scoped more })
     (prints_quoted text h) (prints_scoped one type k) (prints_more_list xrefs all)
 
-xref_anywhere : (xref : Xref) (marks : List Mark) → IsXrefAt xref marks → IsAnywhere shapes.XrefShape (value.XrefValue xref) marks
+xref_anywhere : (xref : Xref) (marks : List MarkedByte) → IsXrefAt xref marks → IsAnywhere shapes.XrefShape (value.XrefValue xref) marks
 xref_anywhere xref marks is =
     let blanks = is.labelled.blanks in
     let more = is.labelled.more in
     record {
       is = λ behind.
-          subst (λ (l : List Mark). IsValue behind shapes.XrefShape l (value.XrefValue xref)) (append_assoc is.id blanks more ∙ ap (λ l. is.id ++ l) (sym is.labelled.whole) ∙ sym is.whole)
+          subst (λ (l : List MarkedByte). IsValue behind shapes.XrefShape l (value.XrefValue xref)) (append_assoc is.id blanks more ∙ ap (λ l. is.id ++ l) (sym is.labelled.whole) ∙ sym is.whole)
           (spelling.IsValue.xref is.id blanks more xref is.bound.one_word.some is.bound.quoted
           (record { free = free_inner is.id (blanks ++ more ++ behind) is.bound.inner; trimmed = trimmed_unspaced is.id is.bound.unspaced; read = is.bound.one_word.read })
           is.labelled.blank is.labelled.labelled);
@@ -244,14 +244,14 @@ prints_value _ _ not_raw fits = absurd fits
 -- ---- what stands behind the colon
 
 -- blanks, and marks of a kind
-record IsLed (P : List Mark → Type 0) (marks : List Mark) : Type 0 where
-  before : List Mark
-  main : List Mark
+record IsLed (P : List MarkedByte → Type 0) (marks : List MarkedByte) : Type 0 where
+  before : List MarkedByte
+  main : List MarkedByte
   whole : marks ≡ before ++ main
   blank : AreBlanks before
   is : P main
 
-prints_led : (P : List Mark → Type 0) (bytes : List ℕ) → Prints P bytes → Prints (IsLed P) (behind_space bytes)
+prints_led : (P : List MarkedByte → Type 0) (bytes : List ℕ) → Prints P bytes → Prints (IsLed P) (behind_space bytes)
 prints_led P [] h =
     Prints-weaker P (IsLed P) [] (λ marks is. record { before = []; main = marks; whole = refl; blank = All-nil (λ mark. is_space mark ≡ true); is = is }) h
 prints_led P (byte ∷ bytes) h =
@@ -266,7 +266,7 @@ record IsQualifiedLine (shape : ValueShape) (bytes : List ℕ) (one : Value) (qu
 abbrev content_text : Value → List Qualifier → List ℕ
 content_text one qualifiers = behind_space (value_text one) ++ behind_space (block_text qualifiers)
 
-whole_marks : (bytes : List ℕ) (marks before main between ending : List Mark) (head tail : List Mark) → IsMarked bytes marks → marks ≡ head ++ tail → head ≡ before ++ main → tail ≡ between ++ ending → marks_of bytes ≡ before ++ main ++ between ++ ending
+whole_marks : (bytes : List ℕ) (marks before main between ending : List MarkedByte) (head tail : List MarkedByte) → IsMarked bytes marks → marks ≡ head ++ tail → head ≡ before ++ main → tail ≡ between ++ ending → marks_of bytes ≡ before ++ main ++ between ++ ending
 whole_marks bytes marks before main between ending head tail marked whole is behind =
     ap marks_of (sym (append-nil bytes)) ∙ marked.read [] ∙ append-nil marks ∙ whole ∙ ap (λ l. l ++ tail) is ∙ ap (λ l. (before ++ main) ++ l) behind
     ∙ sym (append_assoc (before ++ main) between ending)
@@ -352,14 +352,14 @@ fit_is_spelled kind first clause fits =
 -- ---- a comment behind a printed line
 
 -- blanks and a comment
-record IsTail (marks : List Mark) : Type 0 where
-  blanks : List Mark
-  comment : List Mark
+record IsTail (marks : List MarkedByte) : Type 0 where
+  blanks : List MarkedByte
+  comment : List MarkedByte
   whole : marks ≡ blanks ++ comment
   blank : AreBlanks blanks
   is : IsComment comment
 
-ending_goes_on : (before main ns : List Mark) (qualifiers : List Qualifier) → AreBlanks before → IsEnding main qualifiers → IsTail ns → IsLed (λ marks. IsEnding marks qualifiers) ((before ++ main) ++ ns)
+ending_goes_on : (before main ns : List MarkedByte) (qualifiers : List Qualifier) → AreBlanks before → IsEnding main qualifiers → IsTail ns → IsLed (λ marks. IsEnding marks qualifiers) ((before ++ main) ++ ns)
 ending_goes_on before _ ns _ blank (grammar.IsEnding.bare _ grammar.IsComment.nothing) tail = record {
   before = before ++ tail.blanks;
   main = tail.comment;
@@ -382,7 +382,7 @@ ending_goes_on before _ ns _ blank (grammar.IsEnding.qualified block blanks _ qu
   is = grammar.IsEnding.qualified block (blanks ++ tail.blanks) tail.comment qualifiers is (All-append (λ mark. is_space mark ≡ true) blanks tail.blanks spaced tail.blank) tail.is;
 }
   where
-    nested : (a b c d e : List Mark) → (a ++ (b ++ c)) ++ (d ++ e) ≡ a ++ (b ++ (c ++ d) ++ e)
+    nested : (a b c d e : List MarkedByte) → (a ++ (b ++ c)) ++ (d ++ e) ≡ a ++ (b ++ (c ++ d) ++ e)
     nested a b c d e = simp append_assoc
 ending_goes_on before _ ns _ blank (grammar.IsEnding.qualified block blanks _ qualifiers is spaced (grammar.IsComment.comment rest)) tail = record {
   before = before;
@@ -392,7 +392,7 @@ ending_goes_on before _ ns _ blank (grammar.IsEnding.qualified block blanks _ qu
   is = grammar.IsEnding.qualified block blanks (exclamation ∷ (rest ++ ns)) qualifiers is spaced (grammar.IsComment.comment (rest ++ ns));
 }
   where
-    nested : (a b c d e : List Mark) → (a ++ (b ++ c ++ d)) ++ e ≡ a ++ (b ++ c ++ (d ++ e))
+    nested : (a b c d e : List MarkedByte) → (a ++ (b ++ c ++ d)) ++ e ≡ a ++ (b ++ c ++ (d ++ e))
     nested a b c d e = simp append_assoc
 
 prints_tail : (name : List ℕ) → IsText name → Prints IsTail (comment_text name)

@@ -10,7 +10,7 @@ use Rattle.obo_lexer.specs.Tokens.{is_blank}
 use Rattle.obo_clause.specs.declared.clause.Qualifier.{Qualifier}
 use Rattle.obo_clause.specs.Grammar.{AreBlanks, AreQualifiers, AreSlots, AreTrimmed, IsBlock, IsComment, IsEnding, IsEntry, IsFree, IsKey, IsLabel, IsQualifier, IsQuoted, IsSlot, IsTrimmed, IsWord, IsXrefList}
 use Rattle.obo_clause.specs.Grammar as grammar
-use Rattle.obo_clause.specs.declared.mark.Mark.{Mark}
+use Rattle.obo_clause.specs.declared.mark.MarkedByte.{MarkedByte}
 use Rattle.obo_clause.specs.Marks.{bare, meant, read_as}
 use Rattle.clause_printer.specs.Printing.{is_escaped_in_word, letter_of, spelled_byte, word_text}
 use Rattle.obo_clause.specs.Spelled.{IsLine}
@@ -32,13 +32,13 @@ IsLine-append xs ys h k = record {
 -- ---- written for marks of a kind
 
 -- the bytes are written for such marks, and may stand in a line
-pub record Prints (P : List Mark → Type 0) (bytes : List ℕ) : Type 0 where
-  pub marks : List Mark
+pub record Prints (P : List MarkedByte → Type 0) (bytes : List ℕ) : Type 0 where
+  pub marks : List MarkedByte
   pub marked : IsMarked bytes marks
   pub is : P marks
   pub line : IsLine bytes
 
-pub Prints-append : (P Q R : List Mark → Type 0) (xs ys : List ℕ) → ((ms ns : List Mark) → P ms → Q ns → R (ms ++ ns)) → Prints P xs → Prints Q ys → Prints R (xs ++ ys)
+pub Prints-append : (P Q R : List MarkedByte → Type 0) (xs ys : List ℕ) → ((ms ns : List MarkedByte) → P ms → Q ns → R (ms ++ ns)) → Prints P xs → Prints Q ys → Prints R (xs ++ ys)
 Prints-append P Q R xs ys joins h k = record {
   marks = h.marks ++ k.marks;
   marked = IsMarked-append xs ys h.marks k.marks h.marked k.marked;
@@ -46,14 +46,14 @@ Prints-append P Q R xs ys joins h k = record {
   line = IsLine-append xs ys h.line k.line;
 }
 
-pub Prints-weaker : (P Q : List Mark → Type 0) (bytes : List ℕ) → ((marks : List Mark) → P marks → Q marks) → Prints P bytes → Prints Q bytes
+pub Prints-weaker : (P Q : List MarkedByte → Type 0) (bytes : List ℕ) → ((marks : List MarkedByte) → P marks → Q marks) → Prints P bytes → Prints Q bytes
 Prints-weaker P Q bytes weaker h = record { marks = h.marks; marked = h.marked; is = weaker h.marks h.is; line = h.line }
 
-pub Prints-nil : (P : List Mark → Type 0) → P [] → Prints P []
+pub Prints-nil : (P : List MarkedByte → Type 0) → P [] → Prints P []
 Prints-nil P is = record { marks = []; marked = IsMarked-nil; is = is; line = IsLine-nil }
 
 -- these marks and no others
-abbrev pub Are : List Mark → List Mark → Type 0
+abbrev pub Are : List MarkedByte → List MarkedByte → Type 0
 Are wanted marks = marks ≡ wanted
 
 pub Prints-sign : (byte : ℕ) → byte < 128 → (byte == 10) ≡ false → (byte == 13) ≡ false → (byte == 92) ≡ false → Prints (Are (bare byte ∷ [])) (byte ∷ [])
@@ -65,7 +65,7 @@ Prints-sign byte low no_feed no_return no_backslash = record {
 }
 
 -- one blank or more
-pub record IsGap (marks : List Mark) : Type 0 where
+pub record IsGap (marks : List MarkedByte) : Type 0 where
   pub some : 0 < length marks
   pub blank : AreBlanks marks
 
@@ -78,7 +78,7 @@ prints_space =
 -- ---- bytes, each behind a backslash or not
 
 -- the mark of a byte, where a test says which bytes are escaped
-abbrev pub mark_by : (ℕ → Bool) → ℕ → Mark
+abbrev pub mark_by : (ℕ → Bool) → ℕ → MarkedByte
 mark_by is_special byte = record { byte = byte; is_escaped = is_special byte }
 
 -- the test is for all that has to be escaped, and for nothing that has no letter
@@ -107,12 +107,12 @@ spelled-map : (is_special : ℕ → Bool) (text : List ℕ) → spelled (map (ma
 spelled-map is_special [] = refl
 spelled-map is_special (byte ∷ text) = ap (λ l. spelled_byte (is_special byte) byte ++ l) (spelled-map is_special text)
 
-pub AllPass-map : (p : Mark → Bool) (f : ℕ → Mark) → ((byte : ℕ) → p (f byte) ≡ true) → (text : List ℕ) → AllPass p (map f text)
+pub AllPass-map : (p : MarkedByte → Bool) (f : ℕ → MarkedByte) → ((byte : ℕ) → p (f byte) ≡ true) → (text : List ℕ) → AllPass p (map f text)
 AllPass-map p f passes [] = All-nil (λ mark. p mark ≡ true)
 AllPass-map p f passes (byte ∷ text) = All-cons (λ mark. p mark ≡ true) (f byte) (map f text) (passes byte) (AllPass-map p f passes text)
 
 -- what is written for marks, where these can be read back
-pub prints_marks : (P : List Mark → Type 0) (marks : List Mark) (bytes : List ℕ) → spelled marks ≡ bytes → AllPass is_spellable marks → IsText (read_as marks) → P marks → Prints P bytes
+pub prints_marks : (P : List MarkedByte → Type 0) (marks : List MarkedByte) (bytes : List ℕ) → spelled marks ≡ bytes → AllPass is_spellable marks → IsText (read_as marks) → P marks → Prints P bytes
 prints_marks P marks bytes same each text is = record {
   marks = marks;
   marked = subst (λ (l : List ℕ). IsMarked l marks) same (IsMarked-spelled marks each);
@@ -120,7 +120,7 @@ prints_marks P marks bytes same each text is = record {
   line = subst IsLine same (IsLine-spelled marks each text);
 }
 
-pub prints_by : (P : List Mark → Type 0) (is_special : ℕ → Bool) (text : List ℕ) → IsEscaping is_special → IsText text → P (map (mark_by is_special) text) → Prints P (flat_map (λ byte. spelled_byte (is_special byte) byte) text)
+pub prints_by : (P : List MarkedByte → Type 0) (is_special : ℕ → Bool) (text : List ℕ) → IsEscaping is_special → IsText text → P (map (mark_by is_special) text) → Prints P (flat_map (λ byte. spelled_byte (is_special byte) byte) text)
 prints_by P is_special text h is parts =
     prints_marks P (map (mark_by is_special) text) _ (spelled-map is_special text) (AllPass-map is_spellable (mark_by is_special) (spellable_by is_special h) text)
     (subst IsText (sym (read_as-map is_special text)) is) parts
@@ -135,10 +135,10 @@ pub never_bare : (class is_special : ℕ → Bool) → ((byte : ℕ) → class b
 never_bare class is_special h byte = not_and (is_special byte) (class byte) (h byte)
 
 -- the mark is none with which an ending begins
-abbrev pub is_inner : Mark → Bool
+abbrev pub is_inner : MarkedByte → Bool
 is_inner mark = not (is_bare (is_one_of (codes "!{")) mark)
 
-abbrev pub is_no_space : Mark → Bool
+abbrev pub is_no_space : MarkedByte → Bool
 is_no_space mark = not (is_space mark)
 
 pub blank_cases : (p : ℕ → Bool) (byte : ℕ) → p 32 ≡ true → p 9 ≡ true → is_blank byte ≡ true → p byte ≡ true
@@ -170,21 +170,21 @@ word_holds : (bytes : List ℕ) → list_all is_escaped_in_word bytes ≡ true �
 word_holds bytes all byte is = is_one_of-passes is_escaped_in_word bytes byte all is
 
 -- the marks of a word that stands by itself wherever it is printed
-pub record IsBound (word : List ℕ) (marks : List Mark) : Type 0 where
+pub record IsBound (word : List ℕ) (marks : List MarkedByte) : Type 0 where
   pub one_word : IsWord marks word
   pub entry : AllPass is_entry_mark marks
   pub quoted : AllPass is_quoted_mark marks
   pub unspaced : AllPass is_no_space marks
   pub inner : AllPass is_inner marks
 
-pub some-map : (f : ℕ → Mark) (text : List ℕ) → 0 < length text → 0 < length (map f text)
+pub some-map : (f : ℕ → MarkedByte) (text : List ℕ) → 0 < length text → 0 < length (map f text)
 some-map f [] h = absurd (omega arith)
 some-map f (byte ∷ text) h = omega arith
 
 pub prints_bound : (word : List ℕ) → IsWordText word → Prints (IsBound word) (word_text word)
 unfolding is_escaped_in_word
 prints_bound word h =
-    let each : (p : Mark → Bool) → ((byte : ℕ) → p (mark_by is_escaped_in_word byte) ≡ true) → AllPass p (map (mark_by is_escaped_in_word) word) = λ p passes. AllPass-map p (mark_by is_escaped_in_word) passes word in
+    let each : (p : MarkedByte → Bool) → ((byte : ℕ) → p (mark_by is_escaped_in_word byte) ≡ true) → AllPass p (map (mark_by is_escaped_in_word) word) = λ p passes. AllPass-map p (mark_by is_escaped_in_word) passes word in
     prints_by (IsBound word) is_escaped_in_word word IsEscaping-word h.text (record {
       one_word = record {
         some = some-map (mark_by is_escaped_in_word) word h.some;
@@ -201,33 +201,33 @@ pub prints_word : (word : List ℕ) → IsWordText word → Prints (λ marks. Is
 prints_word word h = Prints-weaker (IsBound word) (λ marks. IsWord marks word) (word_text word) (λ marks is. is.one_word) (prints_bound word h)
 
 -- marks without a space have none at an end
-pub trimmed_unspaced : (marks : List Mark) → AllPass is_no_space marks → AreTrimmed marks
+pub trimmed_unspaced : (marks : List MarkedByte) → AllPass is_no_space marks → AreTrimmed marks
 trimmed_unspaced marks each = record {
   begins = λ mark rest whole. not-true (is_space mark) (All-head (λ one. is_no_space one ≡ true) mark rest (subst (AllPass is_no_space) whole each));
   ends = λ mark rest whole. not-true (is_space mark) (last_of rest mark (subst (AllPass is_no_space) whole each));
 }
   where
-    last_of : (rest : List Mark) (mark : Mark) → AllPass is_no_space (rest ++ mark ∷ []) → is_no_space mark ≡ true
+    last_of : (rest : List MarkedByte) (mark : MarkedByte) → AllPass is_no_space (rest ++ mark ∷ []) → is_no_space mark ≡ true
     last_of [] mark each = All-head (λ one. is_no_space one ≡ true) mark [] each
     last_of (first ∷ rest) mark each = last_of rest mark (All-tail (λ one. is_no_space one ≡ true) first (rest ++ mark ∷ []) each)
 
 -- ---- no ending begins inside
 
-ending_begins : (marks : List Mark) (qualifiers : List Qualifier) → IsEnding marks qualifiers → (mark : Mark) (rest : List Mark) → marks ≡ mark ∷ rest → is_bare (is_one_of (codes "!{")) mark ≡ true
+ending_begins : (marks : List MarkedByte) (qualifiers : List Qualifier) → IsEnding marks qualifiers → (mark : MarkedByte) (rest : List MarkedByte) → marks ≡ mark ∷ rest → is_bare (is_one_of (codes "!{")) mark ≡ true
 ending_begins _ _ (grammar.IsEnding.bare _ grammar.IsComment.nothing) mark rest whole = absurd (let e : [] ≡ mark ∷ rest = whole in cc)
 ending_begins _ _ (grammar.IsEnding.bare _ (grammar.IsComment.comment more)) mark rest whole =
-    let same : exclamation ≡ mark = cc in subst (λ (one : Mark). is_bare (is_one_of (codes "!{")) one ≡ true) same refl
+    let same : exclamation ≡ mark = cc in subst (λ (one : MarkedByte). is_bare (is_one_of (codes "!{")) one ≡ true) same refl
 ending_begins _ _ (grammar.IsEnding.qualified block blanks comment _ is blank commented) mark rest whole =
     let begun : block_open ∷ ((is.before ++ is.inside ++ is.behind ++ block_close ∷ []) ++ blanks ++ comment) ≡ mark ∷ rest = ap (λ l. l ++ blanks ++ comment) (sym is.whole) ∙ whole in
-    let same : block_open ≡ mark = cc in subst (λ (one : Mark). is_bare (is_one_of (codes "!{")) one ≡ true) same refl
+    let same : block_open ≡ mark = cc in subst (λ (one : MarkedByte). is_bare (is_one_of (codes "!{")) one ≡ true) same refl
 
-pub free_inner : (marks behind : List Mark) → AllPass is_inner marks → IsFree marks behind
+pub free_inner : (marks behind : List MarkedByte) → AllPass is_inner marks → IsFree marks behind
 free_inner marks behind each before [] qualifiers whole some ending = omega arith
 free_inner marks behind each before (mark ∷ after) qualifiers whole some ending =
     both_ways (is_bare (is_one_of (codes "!{")) mark)
     (not-true _ (inside before mark after (subst (AllPass is_inner) whole each)))
     (ending_begins (mark ∷ (after ++ behind)) qualifiers ending mark (after ++ behind) refl)
   where
-    inside : (before : List Mark) (mark : Mark) (after : List Mark) → AllPass is_inner (before ++ mark ∷ after) → is_inner mark ≡ true
+    inside : (before : List MarkedByte) (mark : MarkedByte) (after : List MarkedByte) → AllPass is_inner (before ++ mark ∷ after) → is_inner mark ≡ true
     inside [] mark after each = All-head (λ one. is_inner one ≡ true) mark after each
     inside (first ∷ before) mark after each = inside before mark after (All-tail (λ one. is_inner one ≡ true) first (before ++ mark ∷ after) each)

@@ -7,7 +7,7 @@ use Rattle.obo_lexer.specs.Tokens.{is_blank}
 use Rattle.obo_clause.specs.declared.clause.Xref.{Xref}
 use Rattle.obo_clause.specs.Grammar.{AreBlanks, AreQualifiers, AreSlots, AreTrimmed, IsBlock, IsComment, IsEnding, IsEntry, IsKey, IsLabel, IsQualifier, IsQuoted, IsSlot, IsTrimmed, IsWord, IsXrefList}
 use Rattle.obo_clause.specs.Grammar as grammar
-use Rattle.obo_clause.specs.declared.mark.Mark.{Mark}
+use Rattle.obo_clause.specs.declared.mark.MarkedByte.{MarkedByte}
 use Rattle.obo_clause.specs.Marks.{meant, read_as}
 use Rattle.rel_io.specs.Texts.{IsText}
 use Rattle.obo_clause.specs.Fits.{FitsXref, IsTextOrNone}
@@ -33,7 +33,7 @@ IsEscaping-run is_outer = record {
 }
 
 -- the marks of a run
-abbrev run_marks : Bool → List ℕ → List Mark
+abbrev run_marks : Bool → List ℕ → List MarkedByte
 run_marks begins [] = []
 run_marks begins (byte ∷ bytes) = mark_by (is_escaped_in_run (begins || is_end bytes)) byte ∷ run_marks false bytes
 
@@ -45,7 +45,7 @@ spelled-run : (begins : Bool) (text : List ℕ) → spelled (run_marks begins te
 spelled-run begins [] = refl
 spelled-run begins (byte ∷ text) = ap (λ l. spelled_byte (is_escaped_in_run (begins || is_end text) byte) byte ++ l) (spelled-run false text)
 
-AllPass-run : (p : Mark → Bool) → ((is_outer : Bool) (byte : ℕ) → p (mark_by (is_escaped_in_run is_outer) byte) ≡ true) → (begins : Bool) (text : List ℕ) → AllPass p (run_marks begins text)
+AllPass-run : (p : MarkedByte → Bool) → ((is_outer : Bool) (byte : ℕ) → p (mark_by (is_escaped_in_run is_outer) byte) ≡ true) → (begins : Bool) (text : List ℕ) → AllPass p (run_marks begins text)
 AllPass-run p passes begins [] = All-nil (λ mark. p mark ≡ true)
 AllPass-run p passes begins (byte ∷ text) = All-cons (λ mark. p mark ≡ true) _ _ (passes (begins || is_end text) byte) (AllPass-run p passes false text)
 
@@ -60,28 +60,28 @@ outer_mark true byte is =
     not-true _ (never_bare is_blank (is_escaped_in_run true) (λ one blank. blank_cases (is_escaped_in_run true) one refl refl blank) byte)
 outer_mark false byte is = absurd (cc)
 
-run_begins : (text : List ℕ) (mark : Mark) (rest : List Mark) → run_marks true text ≡ mark ∷ rest → is_space mark ≡ false
+run_begins : (text : List ℕ) (mark : MarkedByte) (rest : List MarkedByte) → run_marks true text ≡ mark ∷ rest → is_space mark ≡ false
 run_begins [] mark rest whole = absurd (let e : [] ≡ mark ∷ rest = whole in cc)
 run_begins (byte ∷ text) mark rest whole =
     let same : mark_by (is_escaped_in_run (true || is_end text)) byte ≡ mark = cc in
-    subst (λ (one : Mark). is_space one ≡ false) same (outer_mark (true || is_end text) byte refl)
+    subst (λ (one : MarkedByte). is_space one ≡ false) same (outer_mark (true || is_end text) byte refl)
 
 none_left : (begins : Bool) (text : List ℕ) → run_marks begins text ≡ [] → is_end text ≡ true
 none_left begins [] whole = refl
 none_left begins (byte ∷ text) whole = absurd (let e : mark_by (is_escaped_in_run (begins || is_end text)) byte ∷ run_marks false text ≡ [] = whole in cc)
 
-run_ends : (begins : Bool) (text : List ℕ) (mark : Mark) (rest : List Mark) → run_marks begins text ≡ rest ++ mark ∷ [] → is_space mark ≡ false
+run_ends : (begins : Bool) (text : List ℕ) (mark : MarkedByte) (rest : List MarkedByte) → run_marks begins text ≡ rest ++ mark ∷ [] → is_space mark ≡ false
 run_ends begins [] mark [] whole = absurd (let e : [] ≡ mark ∷ [] = whole in cc)
 run_ends begins [] mark (first ∷ rest) whole = absurd (let e : [] ≡ first ∷ (rest ++ mark ∷ []) = whole in cc)
 run_ends begins (byte ∷ text) mark [] whole =
     let same : mark_by (is_escaped_in_run (begins || is_end text)) byte ≡ mark = cc in
     let none : run_marks false text ≡ [] = cc in
-    subst (λ (one : Mark). is_space one ≡ false) same (outer_mark (begins || is_end text) byte (or_right begins (is_end text) (none_left false text none)))
+    subst (λ (one : MarkedByte). is_space one ≡ false) same (outer_mark (begins || is_end text) byte (or_right begins (is_end text) (none_left false text none)))
 run_ends begins (byte ∷ text) mark (first ∷ rest) whole = run_ends false text mark rest cc
 
 -- the marks are a run, whatever stands behind them
-pub record IsRunAnywhere (text : List ℕ) (marks : List Mark) : Type 0 where
-  pub run : (behind : List Mark) → IsRun behind marks text
+pub record IsRunAnywhere (text : List ℕ) (marks : List MarkedByte) : Type 0 where
+  pub run : (behind : List MarkedByte) → IsRun behind marks text
 
 pub prints_run : (text : List ℕ) → IsText text → Prints (IsRunAnywhere text) (run_text true text)
 prints_run text is =
@@ -106,7 +106,7 @@ IsEscaping-quotes = record {
   line_feed = refl;
 }
 
-record IsInside (text : List ℕ) (marks : List Mark) : Type 0 where
+record IsInside (text : List ℕ) (marks : List MarkedByte) : Type 0 where
   each : AllPass is_quoted_mark marks
   read : read_as marks ≡ text
 
@@ -121,8 +121,8 @@ prints_inside text is =
 prints_quote : Prints (Are (quote ∷ [])) (34 ∷ [])
 prints_quote = Prints-sign 34 (omega arith) refl refl refl
 
-abbrev IsBehindQuote : List ℕ → List Mark → Type 0
-IsBehindQuote text marks = (inside : List Mark) × (marks ≡ inside ++ quote ∷ []) × IsInside text inside
+abbrev IsBehindQuote : List ℕ → List MarkedByte → Type 0
+IsBehindQuote text marks = (inside : List MarkedByte) × (marks ≡ inside ++ quote ∷ []) × IsInside text inside
 
 pub prints_quoted : (text : List ℕ) → IsText text → Prints (λ marks. IsQuoted marks text) (quoted_text text)
 prints_quoted text is =
@@ -139,9 +139,9 @@ prints_quoted text is =
 -- ---- xref lists
 
 -- blanks and a label, or nothing
-pub record IsBehindId (label : Option (List ℕ)) (marks : List Mark) : Type 0 where
-  pub blanks : List Mark
-  pub more : List Mark
+pub record IsBehindId (label : Option (List ℕ)) (marks : List MarkedByte) : Type 0 where
+  pub blanks : List MarkedByte
+  pub more : List MarkedByte
   pub whole : marks ≡ blanks ++ more
   pub blank : AreBlanks blanks
   pub labelled : IsLabel more label
@@ -154,9 +154,9 @@ prints_label (Some text) is =
     prints_space (prints_quoted text is)
 
 -- the marks of an id, and what stands behind it
-pub record IsXrefAt (xref : Xref) (marks : List Mark) : Type 0 where
-  pub id : List Mark
-  pub behind : List Mark
+pub record IsXrefAt (xref : Xref) (marks : List MarkedByte) : Type 0 where
+  pub id : List MarkedByte
+  pub behind : List MarkedByte
   pub whole : marks ≡ id ++ behind
   pub bound : IsBound xref.id id
   pub labelled : IsBehindId xref.label behind
@@ -167,11 +167,11 @@ prints_xref xref fits =
     (λ ms ns bound labelled. record { id = ms; behind = ns; whole = refl; bound = bound; labelled = labelled })
     (prints_bound xref.id fits.id) (prints_label xref.label fits.label)
 
-entry_whole : (before marks id behind blanks more : List Mark) → marks ≡ id ++ behind → behind ≡ blanks ++ more → before ++ marks ≡ before ++ id ++ blanks ++ more ++ []
+entry_whole : (before marks id behind blanks more : List MarkedByte) → marks ≡ id ++ behind → behind ≡ blanks ++ more → before ++ marks ≡ before ++ id ++ blanks ++ more ++ []
 entry_whole before marks id behind blanks more is labelled =
     ap (λ l. before ++ l) (is ∙ ap (λ l. id ++ l) labelled) ∙ sym (append-nil (before ++ id ++ blanks ++ more) ∙ append_assoc (before ++ id) blanks more ∙ append_assoc before id (blanks ++ more))
 
-entry_of : (xref : Xref) (before marks : List Mark) → AreBlanks before → IsXrefAt xref marks → IsEntry (before ++ marks) xref
+entry_of : (xref : Xref) (before marks : List MarkedByte) → AreBlanks before → IsXrefAt xref marks → IsEntry (before ++ marks) xref
 entry_of xref before marks blank is = record {
   before = before;
   id = is.id;
@@ -213,19 +213,19 @@ prints_slots before xref [] blank fits all =
     (λ marks entry. grammar.AreSlots.last marks (xref ∷ []) (grammar.IsSlot.filled xref entry)) (prints_entry before xref blank fits))
 prints_slots before xref (next ∷ xrefs) blank fits all =
     let later = prints_slots (codes " ") next xrefs prints_blanks (All-head FitsXref next xrefs all) (All-tail FitsXref next xrefs all) in
-    Prints-append (λ marks. IsEntry marks xref) (λ marks. (rest : List Mark) × (marks ≡ comma ∷ rest) × AreSlots rest (next ∷ xrefs)) (λ marks. AreSlots marks (xref ∷ next ∷ xrefs))
+    Prints-append (λ marks. IsEntry marks xref) (λ marks. (rest : List MarkedByte) × (marks ≡ comma ∷ rest) × AreSlots rest (next ∷ xrefs)) (λ marks. AreSlots marks (xref ∷ next ∷ xrefs))
     (before ++ xref_text xref) (other_xrefs (next ∷ xrefs))
-    (λ ms ns entry more. subst (λ (l : List Mark). AreSlots (ms ++ l) (xref ∷ next ∷ xrefs)) (sym more.1) (grammar.AreSlots.more ms more.0 (xref ∷ []) (next ∷ xrefs) (grammar.IsSlot.filled xref entry) more.2))
+    (λ ms ns entry more. subst (λ (l : List MarkedByte). AreSlots (ms ++ l) (xref ∷ next ∷ xrefs)) (sym more.1) (grammar.AreSlots.more ms more.0 (xref ∷ []) (next ∷ xrefs) (grammar.IsSlot.filled xref entry) more.2))
     (prints_entry before xref blank fits)
-    (Prints-append (Are (comma ∷ [])) (λ marks. AreSlots marks (next ∷ xrefs)) (λ marks. (rest : List Mark) × (marks ≡ comma ∷ rest) × AreSlots rest (next ∷ xrefs)) (44 ∷ []) _
+    (Prints-append (Are (comma ∷ [])) (λ marks. AreSlots marks (next ∷ xrefs)) (λ marks. (rest : List MarkedByte) × (marks ≡ comma ∷ rest) × AreSlots rest (next ∷ xrefs)) (44 ∷ []) _
     (λ ms ns one slots. (ns, ap (λ l. l ++ ns) one, slots)) prints_comma later)
 
 prints_inside_list : (xrefs : List Xref) → All FitsXref xrefs → Prints (λ marks. AreSlots marks xrefs) (join_by xref_text (codes ", ") xrefs)
 prints_inside_list [] all = Prints-nil (λ marks. AreSlots marks []) (grammar.AreSlots.last [] [] (grammar.IsSlot.skipped (All-nil (λ mark. is_space mark ≡ true))))
 prints_inside_list (xref ∷ xrefs) all = prints_slots [] xref xrefs no_blanks (All-head FitsXref xref xrefs all) (All-tail FitsXref xref xrefs all)
 
-abbrev IsBehindOpen : List Xref → List Mark → Type 0
-IsBehindOpen xrefs marks = (inside : List Mark) × (marks ≡ inside ++ list_close ∷ []) × AreSlots inside xrefs
+abbrev IsBehindOpen : List Xref → List MarkedByte → Type 0
+IsBehindOpen xrefs marks = (inside : List MarkedByte) × (marks ≡ inside ++ list_close ∷ []) × AreSlots inside xrefs
 
 pub prints_list : (xrefs : List Xref) → All FitsXref xrefs → Prints (λ marks. IsXrefList marks xrefs) (list_text xrefs)
 prints_list xrefs all =

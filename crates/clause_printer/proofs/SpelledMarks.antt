@@ -8,24 +8,24 @@ use Rattle.std.proofs.lemmas.List.Elements.{All-head, All-tail}
 use Rattle.std.proofs.lemmas.List.Folds.{list_any-append}
 use Rattle.std.proofs.lemmas.Str.{IsUtf8-nil, encode_ascii}
 use Rattle.rel_io.specs.Texts.{IsText, is_line_feed, is_return}
-use Rattle.obo_clause.specs.declared.mark.Mark.{Mark}
+use Rattle.obo_clause.specs.declared.mark.MarkedByte.{MarkedByte}
 use Rattle.obo_clause.specs.Marks.{bare, marks_of, meant, read_as}
 use Rattle.clause_printer.specs.Printing.{letter_of, spelled_byte}
 use Rattle.obo_clause.specs.Spelled.{IsLine}
 use Rattle.obo_clause.specs.Vocabulary.{is_one_of}
 
 -- what is written for marks
-abbrev pub spelled : List Mark → List ℕ
+abbrev pub spelled : List MarkedByte → List ℕ
 spelled marks = flat_map (λ mark. spelled_byte mark.is_escaped mark.byte) marks
 
 -- the bytes are read as the marks, whatever stands behind them
-pub record IsMarked (bytes : List ℕ) (marks : List Mark) : Type 0 where
+pub record IsMarked (bytes : List ℕ) (marks : List MarkedByte) : Type 0 where
   pub read : (rest : List ℕ) → marks_of (bytes ++ rest) ≡ marks ++ marks_of rest
 
 pub IsMarked-nil : IsMarked [] []
 IsMarked-nil = record { read = λ rest. refl }
 
-pub IsMarked-append : (xs ys : List ℕ) (ms ns : List Mark) → IsMarked xs ms → IsMarked ys ns → IsMarked (xs ++ ys) (ms ++ ns)
+pub IsMarked-append : (xs ys : List ℕ) (ms ns : List MarkedByte) → IsMarked xs ms → IsMarked ys ns → IsMarked (xs ++ ys) (ms ++ ns)
 IsMarked-append xs ys ms ns h k = record {
   read = λ rest. ap marks_of (append_assoc xs ys rest) ∙ h.read (ys ++ rest) ∙ ap (λ more. ms ++ more) (k.read rest) ∙ sym (append_assoc ms ns (marks_of rest));
 }
@@ -50,7 +50,7 @@ is_one_of-passes p (first ∷ bytes) byte all is =
 
 -- the mark is written so that it is read back: a byte of ASCII that its letter stands for, or one that stands by itself and
 -- is no backslash and no LF
-abbrev pub is_spellable : Mark → Bool
+abbrev pub is_spellable : MarkedByte → Bool
 is_spellable mark =
     if mark.is_escaped then nat_lt mark.byte 128 && (meant (letter_of mark.byte) == mark.byte)
     else not (mark.byte == 92 || mark.byte == 10)
@@ -58,11 +58,11 @@ is_spellable mark =
 spelled_one : (is_escaped : Bool) (byte : ℕ) → is_spellable (record { byte = byte; is_escaped = is_escaped }) ≡ true → IsMarked (spelled_byte is_escaped byte) (record { byte = byte; is_escaped = is_escaped } ∷ [])
 spelled_one true byte is =
     let same : meant (letter_of byte) ≡ byte = eqb-true _ _ (and_parts (nat_lt byte 128) (meant (letter_of byte) == byte) is).1 in
-    record { read = λ rest. ap (λ (one : ℕ). (let mark : Mark = record { byte = one; is_escaped = true } in mark) ∷ marks_of rest) same }
+    record { read = λ rest. ap (λ (one : ℕ). (let mark : MarkedByte = record { byte = one; is_escaped = true } in mark) ∷ marks_of rest) same }
 spelled_one false byte is =
     IsMarked-sign byte (or_parts (byte == 92) (byte == 10) (not-true (byte == 92 || byte == 10) is)).0
 
-pub IsMarked-spelled : (marks : List Mark) → AllPass is_spellable marks → IsMarked (spelled marks) marks
+pub IsMarked-spelled : (marks : List MarkedByte) → AllPass is_spellable marks → IsMarked (spelled marks) marks
 IsMarked-spelled [] h = IsMarked-nil
 IsMarked-spelled (mark ∷ marks) h =
     IsMarked-append (spelled_byte mark.is_escaped mark.byte) (spelled marks) (mark ∷ []) marks
@@ -100,8 +100,8 @@ AreHigh-encode char high =
     (λ _. (omega arith, (omega arith, (omega arith, (omega arith, tt)))))))
 
 -- bytes outside ASCII are written as they are
-record HighSplit (high tail : List ℕ) (marks : List Mark) : Type 0 where
-  rest : List Mark
+record HighSplit (high tail : List ℕ) (marks : List MarkedByte) : Type 0 where
+  rest : List MarkedByte
   spells : spelled marks ≡ high ++ spelled rest
   each : AllPass is_spellable rest
   reads : tail ≡ read_as rest
@@ -111,7 +111,7 @@ high_is_bare true byte high is =
     absurd (let low = ltb-true byte 128 (and_parts (nat_lt byte 128) (meant (letter_of byte) == byte) is).0 in omega arith)
 high_is_bare false byte high is = refl
 
-high_split : (high tail : List ℕ) (marks : List Mark) → AreHigh high → AllPass is_spellable marks → high ++ tail ≡ read_as marks → HighSplit high tail marks
+high_split : (high tail : List ℕ) (marks : List MarkedByte) → AreHigh high → AllPass is_spellable marks → high ++ tail ≡ read_as marks → HighSplit high tail marks
 high_split [] tail marks h each reads = record { rest = marks; spells = refl; each = each; reads = reads }
 high_split (byte ∷ high) tail [] h each reads = absurd (let e : byte ∷ (high ++ tail) ≡ [] = reads in cc)
 high_split (byte ∷ high) tail (mark ∷ marks) h each reads =
@@ -131,7 +131,7 @@ pub IsUtf8-encode_append : (char : ℕ) (bytes : List ℕ) → scalar char ≡ t
 IsUtf8-encode_append char bytes is text =
     (char ∷ text.0, (and_from _ _ is text.1.0, ap (λ l. encode char ++ l) text.1.1))
 
-spelled_chars : (chars : List ℕ) (marks : List Mark) → scalars chars ≡ true → AllPass is_spellable marks → encodes chars ≡ read_as marks → IsUtf8 (spelled marks)
+spelled_chars : (chars : List ℕ) (marks : List MarkedByte) → scalars chars ≡ true → AllPass is_spellable marks → encodes chars ≡ read_as marks → IsUtf8 (spelled marks)
 spelled_chars [] [] scalar each reads = IsUtf8-nil
 spelled_chars [] (mark ∷ marks) scalar each reads = absurd (let e : [] ≡ mark.byte ∷ read_as marks = reads in cc)
 spelled_chars (char ∷ chars) marks are each reads =
@@ -143,7 +143,7 @@ spelled_chars (char ∷ chars) marks are each reads =
           subst IsUtf8 (sym split.spells) (IsUtf8-encode_append char (spelled split.rest) parts.0 (spelled_chars chars split.rest parts.1 split.each split.reads))
     ]
   where
-    spelled_low : (char : ℕ) (chars : List ℕ) (marks : List Mark) → scalars chars ≡ true → char < 128 → AllPass is_spellable marks → char ∷ encodes chars ≡ read_as marks → ((marks : List Mark) → scalars chars ≡ true → AllPass is_spellable marks → encodes chars ≡ read_as marks → IsUtf8 (spelled marks)) → IsUtf8 (spelled marks)
+    spelled_low : (char : ℕ) (chars : List ℕ) (marks : List MarkedByte) → scalars chars ≡ true → char < 128 → AllPass is_spellable marks → char ∷ encodes chars ≡ read_as marks → ((marks : List MarkedByte) → scalars chars ≡ true → AllPass is_spellable marks → encodes chars ≡ read_as marks → IsUtf8 (spelled marks)) → IsUtf8 (spelled marks)
     spelled_low char chars [] are low each reads rec = absurd (let e : char ∷ encodes chars ≡ [] = reads in cc)
     spelled_low char chars (mark ∷ marks) are low each reads rec =
         let same : char ≡ mark.byte = cc in
@@ -151,7 +151,7 @@ spelled_chars (char ∷ chars) marks are each reads =
         IsUtf8-spelled_byte mark.is_escaped mark.byte (spelled marks) (subst (λ (n : ℕ). n < 128) same low)
         (rec marks are (All-tail (λ one. is_spellable one ≡ true) mark marks each) later)
 
-pub IsUtf8-spelled : (marks : List Mark) → AllPass is_spellable marks → IsUtf8 (read_as marks) → IsUtf8 (spelled marks)
+pub IsUtf8-spelled : (marks : List MarkedByte) → AllPass is_spellable marks → IsUtf8 (read_as marks) → IsUtf8 (spelled marks)
 IsUtf8-spelled marks each is = spelled_chars is.0 marks is.1.0 each is.1.1
 
 -- ---- no LF and no CR
@@ -178,13 +178,13 @@ return_one : (is_escaped : Bool) (byte : ℕ) → (byte == 13) ≡ false → lis
 return_one true byte is = rw (letter_of-no_return byte is) refl
 return_one false byte is = rw is refl
 
-pub no_feed-spelled : (marks : List Mark) → AllPass is_spellable marks → list_any is_line_feed (spelled marks) ≡ false
+pub no_feed-spelled : (marks : List MarkedByte) → AllPass is_spellable marks → list_any is_line_feed (spelled marks) ≡ false
 no_feed-spelled [] each = refl
 no_feed-spelled (mark ∷ marks) each =
     list_any-append is_line_feed (spelled_byte mark.is_escaped mark.byte) (spelled marks)
     ∙ or_from _ _ (feed_one mark.is_escaped mark.byte (All-head (λ one. is_spellable one ≡ true) mark marks each)) (no_feed-spelled marks (All-tail (λ one. is_spellable one ≡ true) mark marks each))
 
-pub no_return-spelled : (marks : List Mark) → list_any is_return (read_as marks) ≡ false → list_any is_return (spelled marks) ≡ false
+pub no_return-spelled : (marks : List MarkedByte) → list_any is_return (read_as marks) ≡ false → list_any is_return (spelled marks) ≡ false
 no_return-spelled [] is = refl
 no_return-spelled (mark ∷ marks) is =
     let parts = or_parts (mark.byte == 13) (list_any is_return (read_as marks)) is in
@@ -192,7 +192,7 @@ no_return-spelled (mark ∷ marks) is =
     ∙ or_from _ _ (return_one mark.is_escaped mark.byte parts.0) (no_return-spelled marks parts.1)
 
 -- what is written for the marks of a text may stand in a line
-pub IsLine-spelled : (marks : List Mark) → AllPass is_spellable marks → IsText (read_as marks) → IsLine (spelled marks)
+pub IsLine-spelled : (marks : List MarkedByte) → AllPass is_spellable marks → IsText (read_as marks) → IsLine (spelled marks)
 IsLine-spelled marks each is = record {
   utf8 = IsUtf8-spelled marks each is.utf8;
   no_line_feed = no_feed-spelled marks each;

@@ -11,7 +11,7 @@ use Rattle.std.proofs.lemmas.List.Folds.{list_any-append}
 use Rattle.std.proofs.lemmas.Str.{IsCharBoundary-after_ascii, IsCharBoundary-before_ascii, IsUtf8-drop, IsUtf8-nil, IsUtf8-take, encode_ascii, len_utf8_bounds, length-encode}
 use Rattle.rel_io.specs.Texts.{IsText, is_line_feed, is_return}
 use Rattle.obo_lexer.specs.Tokens.{is_blank}
-use Rattle.obo_clause.specs.declared.mark.Mark.{Mark}
+use Rattle.obo_clause.specs.declared.mark.MarkedByte.{MarkedByte}
 use Rattle.obo_clause.specs.Marks.{marks_of, meant, read_as}
 use Rattle.obo_clause.specs.Spelled.{IsLine}
 use Rattle.obo_clause.specs.Grammar.{AreBlanks}
@@ -173,7 +173,7 @@ read_no_return (byte ∷ next ∷ bytes) none =
 -- ---- cuts of marks
 
 -- the marks are read as a text
-abbrev pub Sound : List Mark → Type 0
+abbrev pub Sound : List MarkedByte → Type 0
 Sound marks = IsText (read_as marks)
 
 pub sound_line : (bytes : List ℕ) → IsLine bytes → Sound (marks_of bytes)
@@ -183,34 +183,34 @@ sound_line bytes is = record {
 }
 
 -- nothing, or a mark of an ASCII byte and more
-abbrev pub LowStart : List Mark → Type 0
+abbrev pub LowStart : List MarkedByte → Type 0
 LowStart [] = Unit {0}
 LowStart (mark ∷ marks) = mark.byte < 128
 
-low_read : (marks : List Mark) → LowStart marks → StartsLow (read_as marks)
+low_read : (marks : List MarkedByte) → LowStart marks → StartsLow (read_as marks)
 low_read [] low = tt
 low_read (mark ∷ marks) low = low
 
-pub sound_cut : (ms ns : List Mark) → LowStart ns → Sound (ms ++ ns) → Sound ms × Sound ns
-sound_cut ms ns low is = text_cut (read_as ms) (read_as ns) (low_read ns low) (subst IsText (map-append (λ (mark : Mark). mark.byte) ms ns) is)
+pub sound_cut : (ms ns : List MarkedByte) → LowStart ns → Sound (ms ++ ns) → Sound ms × Sound ns
+sound_cut ms ns low is = text_cut (read_as ms) (read_as ns) (low_read ns low) (subst IsText (map-append (λ (mark : MarkedByte). mark.byte) ms ns) is)
 
-pub sound_front : (mark : Mark) (marks : List Mark) → mark.byte < 128 → Sound (mark ∷ marks) → Sound marks
+pub sound_front : (mark : MarkedByte) (marks : List MarkedByte) → mark.byte < 128 → Sound (mark ∷ marks) → Sound marks
 sound_front mark marks low is = text_front mark.byte (read_as marks) low is
 
-space_low : (mark : Mark) → is_space mark ≡ true → mark.byte < 128
+space_low : (mark : MarkedByte) → is_space mark ≡ true → mark.byte < 128
 space_low mark is = blank_low mark.byte (and_parts (not mark.is_escaped) (is_blank mark.byte) is).1
 
-pub sound_behind_blanks : (blanks marks : List Mark) → AreBlanks blanks → Sound (blanks ++ marks) → Sound marks
+pub sound_behind_blanks : (blanks marks : List MarkedByte) → AreBlanks blanks → Sound (blanks ++ marks) → Sound marks
 sound_behind_blanks [] marks blank is = is
 sound_behind_blanks (mark ∷ blanks) marks blank is =
     sound_behind_blanks blanks marks (All-tail (λ one. is_space one ≡ true) mark blanks blank)
     (sound_front mark (blanks ++ marks) (space_low mark (All-head (λ one. is_space one ≡ true) mark blanks blank)) is)
 
 -- blanks begin with ASCII, and so do blanks with what begins with ASCII behind them
-pub low_blanks : (blanks marks : List Mark) → AreBlanks blanks → LowStart marks → LowStart (blanks ++ marks)
+pub low_blanks : (blanks marks : List MarkedByte) → AreBlanks blanks → LowStart marks → LowStart (blanks ++ marks)
 low_blanks [] marks blank low = low
 low_blanks (mark ∷ blanks) marks blank low = space_low mark (All-head (λ one. is_space one ≡ true) mark blanks blank)
 
-pub low_gap : (blanks marks : List Mark) → 0 < length blanks → AreBlanks blanks → LowStart (blanks ++ marks)
+pub low_gap : (blanks marks : List MarkedByte) → 0 < length blanks → AreBlanks blanks → LowStart (blanks ++ marks)
 low_gap [] marks some blank = absurd (omega arith)
 low_gap (mark ∷ blanks) marks some blank = space_low mark (All-head (λ one. is_space one ≡ true) mark blanks blank)

@@ -8,8 +8,8 @@ use Rattle.obo_clause.specs.declared.line.LineFault.TheVariants as fault
 use Rattle.obo_clause.specs.Reading.{Answer}
 use Rattle.obo_clause.specs.ReadingLines.{answer_to}
 use Rattle.obo_clause.specs.Spelling.{Says}
-use Rattle.clause_reader.specs.Answers.{AnswersWhatFails, AnswersWhatIsSaid, IsFaultOf}
-use Rattle.clause_reader.specs.Results.{Gives}
+use Rattle.clause_reader.specs.Answers.{AnswersWhatFails, AnswersWhatIsSaid, IsFaultOfLine}
+use Rattle.clause_reader.specs.inner.Results.{Gives}
 use Rattle.obo_clause.proofs.AnswerLemmas.{answer-is-fault, answer-is-said, fault-is-answer, said-is-answer}
 use Rattle.obo_clause.proofs.WordLemmas.{same-ok}
 
@@ -18,7 +18,7 @@ module _ (kind : FrameKind) (first : Bool) (line : List ℕ) where
   gives-says (Ok said) gives = answer-is-said kind first line said gives
   gives-says (Err f) gives = tt
 
-  pub gives-faults : (result : Result Line LineFault) → Gives (answer_to kind first line) result → IfErr result (IsFaultOf kind first line)
+  pub gives-faults : (result : Result Line LineFault) → Gives (answer_to kind first line) result → IfErr result (IsFaultOfLine kind first line)
   gives-faults (Ok said) gives = tt
   gives-faults (Err (fault.Syntax one)) gives = answer-is-fault kind first line one gives
   gives-faults (Err fault.NoMemory) gives = tt

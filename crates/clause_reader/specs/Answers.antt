@@ -23,6 +23,6 @@ AnswersWhatFails kind first line result =
     (one : SyntaxKind) → Fails kind first line one → IsUnlessNoMemory (Err (fault.Syntax one)) result
 
 -- the fault is one of the line, or want of memory
-abbrev pub IsFaultOf : FrameKind → Bool → List ℕ → LineFault → Type 0
-IsFaultOf kind first line (fault.Syntax one) = Fails kind first line one
-IsFaultOf kind first line fault.NoMemory = Unit {0}
+abbrev pub IsFaultOfLine : FrameKind → Bool → List ℕ → LineFault → Type 0
+IsFaultOfLine kind first line (fault.Syntax one) = Fails kind first line one
+IsFaultOfLine kind first line fault.NoMemory = Unit {0}

@@ -1,3 +1,2 @@
 pub mod Answers
-pub mod Classes
-pub mod Results
+pub mod inner

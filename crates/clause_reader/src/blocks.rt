@@ -1,26 +1,26 @@
 //! What a line ends with: a block of qualifiers, as `{source="EX:1", is_inferred="true"}`, and a comment.
 ghost use Rattle.std.specs.Prelude.{◌≡◌, ◌&&◌, ◌||◌, IfOk, MatchOption, None, Some, is_some, length, suc};
-ghost use Rattle.clause_reader.specs.Results.{FindsWith, Gives};
+ghost use Rattle.clause_reader.specs.inner.Results.{FindsWith, Gives};
 ghost use Rattle.obo_clause.specs.Marks.{read_as};
 ghost use Rattle.obo_clause.specs.Reading as read;
 
 use crate::marks::{Class, behind_blanks, split_run, text_of, trim_end};
 use crate::runs::{behind_sign, inside_quotes, is_comment};
-use obo_clause::{LineFault, Mark, Qualifier, SyntaxKind};
+use obo_clause::{LineFault, MarkedByte, Qualifier, SyntaxKind};
 use rel_io::{Items, NoMemory};
 use std::alloc::Global;
 
 /// A qualifier and what stands behind it.
 #[derive(Clone, Copy)]
 struct Field<'a> {
-    key: &'a [Mark],
-    value: &'a [Mark],
-    rest: &'a [Mark],
+    key: &'a [MarkedByte],
+    value: &'a [MarkedByte],
+    rest: &'a [MarkedByte],
 }
 
 /// The qualifier with which the marks begin.
 #[tactic(auto, unfolding(obo_clause::specs::Reading::field_at))]
-fn field_at(marks: &[Mark]) -> Option<Field<'_>>
+fn field_at(marks: &[MarkedByte]) -> Option<Field<'_>>
     ensures { MatchOption result
         (read.field_at marks.now ≡ None)
         (λ field. read.field_at marks.now ≡ Some (field.key.now, field.value.now, field.rest.now)) }
@@ -35,7 +35,7 @@ fn field_at(marks: &[Mark]) -> Option<Field<'_>>
 
 /// The value of a qualifier behind its key. Without quotes it ends at a `{` or `"` too, so that no part of a line is
 /// looked at again and again; neither may follow it.
-fn field_value<'a>(key: &'a [Mark], marks: &'a [Mark]) -> Option<Field<'a>>
+fn field_value<'a>(key: &'a [MarkedByte], marks: &'a [MarkedByte]) -> Option<Field<'a>>
     ensures { MatchOption result
         (read.field_value key.now marks.now ≡ None)
         (λ field. read.field_value key.now marks.now ≡ Some (field.key.now, field.value.now, field.rest.now)) }
@@ -47,7 +47,7 @@ fn field_value<'a>(key: &'a [Mark], marks: &'a [Mark]) -> Option<Field<'a>>
 }
 
 /// A qualifier without quotes.
-fn unquoted_field<'a>(key: &'a [Mark], marks: &'a [Mark]) -> Field<'a>
+fn unquoted_field<'a>(key: &'a [MarkedByte], marks: &'a [MarkedByte]) -> Field<'a>
     ensures { read.unquoted_field key.now marks.now ≡ (result.key.now, result.value.now, result.rest.now) }
 {
     let (run, rest) = split_run(Class::Unquoted, marks);
@@ -59,7 +59,7 @@ fn unquoted_field<'a>(key: &'a [Mark], marks: &'a [Mark]) -> Field<'a>
 }
 
 /// A qualifier with quotes, from behind the first on.
-fn quoted_field<'a>(key: &'a [Mark], marks: &'a [Mark]) -> Option<Field<'a>>
+fn quoted_field<'a>(key: &'a [MarkedByte], marks: &'a [MarkedByte]) -> Option<Field<'a>>
     ensures { MatchOption result
         (read.quoted_field key.now marks.now ≡ None)
         (λ field. read.quoted_field key.now marks.now ≡ Some (field.key.now, field.value.now, field.rest.now)) }
@@ -73,7 +73,11 @@ fn quoted_field<'a>(key: &'a [Mark], marks: &'a [Mark]) -> Option<Field<'a>>
 }
 
 /// What a qualifier is kept as.
-fn qualifier_of(alloc: Global, key: &[Mark], value: &[Mark]) -> Result<Qualifier, NoMemory>
+fn qualifier_of(
+    alloc: Global,
+    key: &[MarkedByte],
+    value: &[MarkedByte],
+) -> Result<Qualifier, NoMemory>
     ensures { IfOk result (λ one. one ≡ record { key = read_as key.now; value = read_as value.now }) }
 {
     let key = text_of(alloc, key)?;
@@ -84,8 +88,8 @@ fn qualifier_of(alloc: Global, key: &[Mark], value: &[Mark]) -> Result<Qualifier
 /// The qualifiers up to the block's end, and what stands behind it. None: it is no block.
 fn qualifiers_in(
     alloc: Global,
-    marks: &[Mark],
-) -> Result<Option<(Items<Qualifier>, &[Mark])>, NoMemory>
+    marks: &[MarkedByte],
+) -> Result<Option<(Items<Qualifier>, &[MarkedByte])>, NoMemory>
     ensures { IfOk result (FindsWith (read.qualifiers_from (suc (length marks.now)) marks.now)) }
 {
     let mut qualifiers = Vec::new(alloc);
@@ -106,7 +110,10 @@ fn qualifiers_in(
 }
 
 /// A block with its last qualifier, where its end stands.
-fn block_end(qualifiers: Vec<Qualifier>, marks: &[Mark]) -> Option<(Items<Qualifier>, &[Mark])>
+fn block_end(
+    qualifiers: Vec<Qualifier>,
+    marks: &[MarkedByte],
+) -> Option<(Items<Qualifier>, &[MarkedByte])>
     ensures { FindsWith (read.block_end qualifiers.items marks.now) result }
 {
     match behind_sign(b'}', marks) {
@@ -118,7 +125,7 @@ fn block_end(qualifiers: Vec<Qualifier>, marks: &[Mark]) -> Option<(Items<Qualif
 /// The qualifiers of the ending, if the marks are one. It looks no further than the next `{` that stands outside
 /// quotes.
 #[tactic(auto, unfolding(obo_clause::specs::Reading::ending_at))]
-fn ending_at(alloc: Global, marks: &[Mark]) -> Result<Option<Items<Qualifier>>, NoMemory>
+fn ending_at(alloc: Global, marks: &[MarkedByte]) -> Result<Option<Items<Qualifier>>, NoMemory>
     ensures { IfOk result (λ found. found ≡ read.ending_at marks.now) }
 {
     if is_comment(marks) {
@@ -132,7 +139,7 @@ fn ending_at(alloc: Global, marks: &[Mark]) -> Result<Option<Items<Qualifier>>, 
 
 /// The qualifiers of a block from behind its `{` on, where only blanks and a comment follow it.
 #[tactic(auto, unfolding(obo_clause::specs::Reading::block_at))]
-fn block_ending(alloc: Global, marks: &[Mark]) -> Result<Option<Items<Qualifier>>, NoMemory>
+fn block_ending(alloc: Global, marks: &[MarkedByte]) -> Result<Option<Items<Qualifier>>, NoMemory>
     ensures { IfOk result (λ found. found ≡ read.block_ending marks.now) }
 {
     match qualifiers_in(alloc, behind_blanks(marks))? {
@@ -149,7 +156,7 @@ fn block_ending(alloc: Global, marks: &[Mark]) -> Result<Option<Items<Qualifier>
 
 /// The qualifiers of the ending behind blanks.
 #[tactic(auto, unfolding(obo_clause::specs::Reading::end_at))]
-pub fn end_at(alloc: Global, marks: &[Mark]) -> Result<Items<Qualifier>, LineFault>
+pub fn end_at(alloc: Global, marks: &[MarkedByte]) -> Result<Items<Qualifier>, LineFault>
     ensures { Gives (read.end_at marks.now) result }
 {
     ending_at(alloc, behind_blanks(marks))?.ok_or(LineFault::Syntax(SyntaxKind::Trailing))
@@ -159,22 +166,26 @@ pub fn end_at(alloc: Global, marks: &[Mark]) -> Result<Items<Qualifier>, LineFau
 #[derive(Drop)]
 pub struct FreeRun<'a> {
     /// The run, with the blanks at its end.
-    pub run: &'a [Mark],
+    pub run: &'a [MarkedByte],
     /// What stands behind it.
-    pub rest: &'a [Mark],
+    pub rest: &'a [MarkedByte],
     /// None: what stands behind the run is no ending.
     pub qualifiers: Option<Items<Qualifier>>,
 }
 
 /// Whether a run stops before these marks: at an ending, which has qualifiers, or at a `"` if that ends it too.
-fn stops_run(at_quote: bool, qualifiers: &Option<Items<Qualifier>>, marks: &[Mark]) -> bool
+fn stops_run(at_quote: bool, qualifiers: &Option<Items<Qualifier>>, marks: &[MarkedByte]) -> bool
     ensures { result ≡ (is_some qualifiers.now || (at_quote && is_some (read.behind_sign 34 marks.now))) }
 {
     qualifiers.is_some() || at_quote && behind_sign(b'"', marks).is_some()
 }
 
 /// The run of characters up to an ending, or a `"` if that ends it too.
-pub fn free_run(alloc: Global, at_quote: bool, marks: &[Mark]) -> Result<FreeRun<'_>, NoMemory>
+pub fn free_run(
+    alloc: Global,
+    at_quote: bool,
+    marks: &[MarkedByte],
+) -> Result<FreeRun<'_>, NoMemory>
     ensures run { IfOk result (λ found. (found.run.now, found.rest.now) ≡ read.free_run at_quote marks.now) }
     ensures ending { IfOk result (λ found. found.qualifiers ≡ read.ending_at found.rest.now) }
 {

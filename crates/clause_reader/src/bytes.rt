@@ -4,7 +4,7 @@ ghost use Rattle.std.specs.List.{prefix_len};
 ghost use Rattle.std.specs.Str.{bytes_eq};
 ghost use Rattle.obo_lexer.specs.Tokens.{is_blank};
 ghost use Rattle.obo_clause.specs.Reading.{behind, trim_end};
-ghost use Rattle.clause_reader.specs.Results.{parts_lent};
+ghost use Rattle.clause_reader.specs.inner.Results.{parts_lent};
 ghost use Rattle.obo_clause.specs.ReadingLines.{at_colon, is_before_colon, is_line_comment};
 ghost use Rattle.obo_clause.specs.Vocabulary.{is_one_of};
 

@@ -1,12 +1,12 @@
 //! Lists of dbxrefs, as `[PMID:1 "a paper", EX:2]`.
 ghost use Rattle.std.specs.Prelude.{◌≡◌, ◌++◌, MatchResult, OnOk, IfOk, Ok, Err, length, suc};
 ghost use Rattle.std.specs.Option.{option_copied};
-ghost use Rattle.clause_reader.specs.Results.{GivesWith};
+ghost use Rattle.clause_reader.specs.inner.Results.{GivesWith};
 ghost use Rattle.obo_clause.specs.Reading as read;
 
 use crate::marks::{Class, behind_blanks, split_run, text_if_any, text_of, trim_end};
 use crate::runs::{behind_sign, end_of_quotes};
-use obo_clause::{LineFault, Mark, SyntaxKind, Xref};
+use obo_clause::{LineFault, MarkedByte, SyntaxKind, Xref};
 use rel_io::{Items, NoMemory};
 use std::alloc::Global;
 
@@ -14,16 +14,16 @@ use std::alloc::Global;
 #[derive(Clone, Copy)]
 struct Slot<'a> {
     /// The entry without outer blanks. An empty one is skipped.
-    id: &'a [Mark],
+    id: &'a [MarkedByte],
     /// What stands between the quotes, if there are some.
-    label: Option<&'a [Mark]>,
+    label: Option<&'a [MarkedByte]>,
     /// What stands behind the entry.
-    rest: &'a [Mark],
+    rest: &'a [MarkedByte],
 }
 
 /// What stands in a list up to the next comma or the end.
 #[tactic(auto, unfolding(obo_clause::specs::Reading::slot_at))]
-fn slot_at(marks: &[Mark]) -> Result<Slot<'_>, SyntaxKind>
+fn slot_at(marks: &[MarkedByte]) -> Result<Slot<'_>, SyntaxKind>
     ensures { MatchResult result
         (λ slot. read.slot_at marks.now ≡ Ok (slot.id.now, option_copied slot.label, slot.rest.now))
         (λ one. read.slot_at marks.now ≡ Err one) }
@@ -41,7 +41,7 @@ fn slot_at(marks: &[Mark]) -> Result<Slot<'_>, SyntaxKind>
 }
 
 /// An entry with a label, from behind the first `"` of that on.
-fn label_at<'a>(id: &'a [Mark], marks: &'a [Mark]) -> Result<Slot<'a>, SyntaxKind>
+fn label_at<'a>(id: &'a [MarkedByte], marks: &'a [MarkedByte]) -> Result<Slot<'a>, SyntaxKind>
     ensures { MatchResult result
         (λ slot. read.label_at id.now marks.now ≡ Ok (slot.id.now, option_copied slot.label, slot.rest.now))
         (λ one. read.label_at id.now marks.now ≡ Err one) }
@@ -61,8 +61,8 @@ fn label_at<'a>(id: &'a [Mark], marks: &'a [Mark]) -> Result<Slot<'a>, SyntaxKin
 fn push_xref(
     alloc: Global,
     xrefs: &mut Vec<Xref>,
-    entry: &[Mark],
-    label: Option<&[Mark]>,
+    entry: &[MarkedByte],
+    label: Option<&[MarkedByte]>,
 ) -> Result<(), NoMemory>
     ensures { OnOk result (xrefs.new.items ≡ xrefs.old.items ++ read.xrefs_of entry.now (option_copied label.entry)) }
 {
@@ -76,7 +76,7 @@ fn push_xref(
 }
 
 /// The xrefs of a list from behind its `[` on, and what stands behind the list.
-fn xrefs_in(alloc: Global, marks: &[Mark]) -> Result<(Items<Xref>, &[Mark]), LineFault>
+fn xrefs_in(alloc: Global, marks: &[MarkedByte]) -> Result<(Items<Xref>, &[MarkedByte]), LineFault>
     ensures { GivesWith (read.slots_from (suc (length marks.now)) marks.now) result }
 {
     let mut xrefs = Vec::new(alloc);
@@ -94,7 +94,10 @@ fn xrefs_in(alloc: Global, marks: &[Mark]) -> Result<(Items<Xref>, &[Mark]), Lin
 }
 
 /// A list with its last entry, where its end stands.
-fn list_end(xrefs: Vec<Xref>, marks: &[Mark]) -> Result<(Items<Xref>, &[Mark]), LineFault>
+fn list_end(
+    xrefs: Vec<Xref>,
+    marks: &[MarkedByte],
+) -> Result<(Items<Xref>, &[MarkedByte]), LineFault>
     ensures { GivesWith (read.list_end xrefs.items marks.now) result }
 {
     match behind_sign(b']', marks) {
@@ -105,7 +108,10 @@ fn list_end(xrefs: Vec<Xref>, marks: &[Mark]) -> Result<(Items<Xref>, &[Mark]), 
 
 /// The list behind blanks, if there is one, and the rest. An absent list is an empty one.
 #[tactic(auto, unfolding(obo_clause::specs::Reading::list_at))]
-pub fn list_at(alloc: Global, marks: &[Mark]) -> Result<(Items<Xref>, &[Mark]), LineFault>
+pub fn list_at(
+    alloc: Global,
+    marks: &[MarkedByte],
+) -> Result<(Items<Xref>, &[MarkedByte]), LineFault>
     ensures { GivesWith (read.list_at marks.now) result }
 {
     match behind_sign(b'[', behind_blanks(marks)) {

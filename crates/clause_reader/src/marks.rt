@@ -3,12 +3,12 @@ ghost use Rattle.std.specs.Prelude.{◌≡◌, ◌+◌, ◌<◌, ◌≤◌, ◌�
 ghost use Rattle.std.specs.List.{prefix_len};
 ghost use Rattle.std.specs.Option.{option_copied};
 ghost use Rattle.obo_clause.specs.Marks as spec;
-ghost use Rattle.clause_reader.specs.Classes.{in_class};
+ghost use Rattle.clause_reader.specs.inner.Classes.{in_class};
 ghost use Rattle.obo_clause.specs.Reading.{behind, behind_blanks, front, is_sign, text_read, trim_end};
 ghost use Rattle.obo_clause.specs.Vocabulary.{is_space};
 
 use crate::bytes::ends_word;
-use obo_clause::{Mark, ends_key, is_blank};
+use obo_clause::{MarkedByte, ends_key, is_blank};
 use rel_io::{Bytes, NoMemory};
 use std::alloc::Global;
 
@@ -30,7 +30,7 @@ pub enum Class {
 }
 
 /// The marks of a text.
-pub fn marks_of(alloc: Global, bytes: &[u8]) -> Result<Vec<Mark>, NoMemory>
+pub fn marks_of(alloc: Global, bytes: &[u8]) -> Result<Vec<MarkedByte>, NoMemory>
     ensures { IfOk result (λ marks. marks.items ≡ spec.marks_of bytes.now) }
 {
     let mut marks = Vec::with_capacity(alloc, bytes.len())?;
@@ -44,7 +44,7 @@ pub fn marks_of(alloc: Global, bytes: &[u8]) -> Result<Vec<Mark>, NoMemory>
 }
 
 /// The mark at the place, and where it ends.
-fn mark_at(bytes: &[u8], place: usize) -> (Mark, usize)
+fn mark_at(bytes: &[u8], place: usize) -> (MarkedByte, usize)
     requires { place < length bytes.now }
     ensures first { spec.marks_of (drop place bytes.now) ≡ result.0 ∷ spec.marks_of (drop result.1 bytes.now) }
     ensures goes { place < result.1 }
@@ -58,17 +58,17 @@ fn mark_at(bytes: &[u8], place: usize) -> (Mark, usize)
 }
 
 /// A byte that stands by itself.
-fn bare(byte: u8) -> Mark
+fn bare(byte: u8) -> MarkedByte
     ensures { result ≡ spec.bare byte }
 {
-    Mark {
+    MarkedByte {
         byte,
         is_escaped: false,
     }
 }
 
 /// A byte behind a backslash.
-fn escaped(byte: u8) -> Mark
+fn escaped(byte: u8) -> MarkedByte
     ensures { result ≡ spec.escaped byte }
 {
     let byte = match byte {
@@ -77,14 +77,14 @@ fn escaped(byte: u8) -> Mark
         b'W' => b' ',
         _ => byte,
     };
-    Mark {
+    MarkedByte {
         byte,
         is_escaped: true,
     }
 }
 
 /// What marks are read as.
-pub fn text_of(alloc: Global, marks: &[Mark]) -> Result<Bytes, NoMemory>
+pub fn text_of(alloc: Global, marks: &[MarkedByte]) -> Result<Bytes, NoMemory>
     ensures { IfOk result (λ text. text ≡ spec.read_as marks.now) }
 {
     let bytes: Vec<u8> = marks.iter().map(|mark| mark.byte).collect(alloc)?;
@@ -92,7 +92,7 @@ pub fn text_of(alloc: Global, marks: &[Mark]) -> Result<Bytes, NoMemory>
 }
 
 /// What the marks of a part that may be absent are read as.
-pub fn text_if_any(alloc: Global, marks: Option<&[Mark]>) -> Result<Option<Bytes>, NoMemory>
+pub fn text_if_any(alloc: Global, marks: Option<&[MarkedByte]>) -> Result<Option<Bytes>, NoMemory>
     ensures { IfOk result (λ text. text ≡ text_read (option_copied marks.entry)) }
 {
     match marks {
@@ -102,14 +102,14 @@ pub fn text_if_any(alloc: Global, marks: Option<&[Mark]>) -> Result<Option<Bytes
 }
 
 /// Whether the mark is this byte, standing by itself.
-pub fn is_sign(byte: u8, mark: Mark) -> bool
+pub fn is_sign(byte: u8, mark: MarkedByte) -> bool
     ensures { result ≡ is_sign byte mark }
 {
     !mark.is_escaped && mark.byte == byte
 }
 
 /// Whether the mark is of the class.
-fn is_in(class: Class, mark: Mark) -> bool
+fn is_in(class: Class, mark: MarkedByte) -> bool
     ensures { result ≡ in_class class mark }
 {
     match class {
@@ -123,7 +123,7 @@ fn is_in(class: Class, mark: Mark) -> bool
 }
 
 /// Where the run of the class ends with which the marks begin.
-fn run_end(class: Class, marks: &[Mark]) -> usize
+fn run_end(class: Class, marks: &[MarkedByte]) -> usize
     ensures run { result ≡ prefix_len (in_class class) marks.now }
     ensures within { result ≤ length marks.now }
 {
@@ -135,7 +135,7 @@ fn run_end(class: Class, marks: &[Mark]) -> usize
 }
 
 /// The run of the class with which the marks begin, and the rest.
-pub fn split_run(class: Class, marks: &[Mark]) -> (&[Mark], &[Mark])
+pub fn split_run(class: Class, marks: &[MarkedByte]) -> (&[MarkedByte], &[MarkedByte])
     ensures run { result.0.now ≡ front (in_class class) marks.now }
     ensures rest { result.1.now ≡ behind (in_class class) marks.now }
 {
@@ -143,14 +143,14 @@ pub fn split_run(class: Class, marks: &[Mark]) -> (&[Mark], &[Mark])
 }
 
 /// What stands behind the blanks with which the marks begin.
-pub fn behind_blanks(marks: &[Mark]) -> &[Mark]
+pub fn behind_blanks(marks: &[MarkedByte]) -> &[MarkedByte]
     ensures { result.now ≡ behind_blanks marks.now }
 {
     split_run(Class::Space, marks).1
 }
 
 /// The marks without the blanks at their end.
-pub fn trim_end(marks: &[Mark]) -> &[Mark]
+pub fn trim_end(marks: &[MarkedByte]) -> &[MarkedByte]
     ensures { result.now ≡ trim_end is_space marks.now }
 {
     let mut end = marks.len();

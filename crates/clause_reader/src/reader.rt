@@ -1,7 +1,7 @@
 //! `read_line`: the one answer to a line.
 ghost use Rattle.std.specs.Prelude.{IfErr, IfOk};
-ghost use Rattle.clause_reader.specs.Answers.{AnswersWhatFails, AnswersWhatIsSaid, IsFaultOf};
-ghost use Rattle.clause_reader.specs.Results.{FindsBytes, Gives};
+ghost use Rattle.clause_reader.specs.Answers.{AnswersWhatFails, AnswersWhatIsSaid, IsFaultOfLine};
+ghost use Rattle.clause_reader.specs.inner.Results.{FindsBytes, Gives};
 ghost use Rattle.obo_clause.specs.ReadingLines as read;
 ghost use Rattle.obo_clause.specs.Spelling.{Says};
 
@@ -22,7 +22,7 @@ pub fn read_line(
 ) -> Result<Line, LineFault>
     ensures says { IfOk result (Says kind first line.now) }
     ensures read { AnswersWhatIsSaid kind first line.now result }
-    ensures fails { IfErr result (IsFaultOf kind first line.now) }
+    ensures fails { IfErr result (IsFaultOfLine kind first line.now) }
     ensures refused { AnswersWhatFails kind first line.now result }
 {
     answer_to(alloc, kind, first, line.as_slice())

@@ -5,10 +5,10 @@ ghost use Rattle.obo_clause.specs.Reading as read;
 ghost use Rattle.obo_clause.specs.ReadingLines.{want_word};
 
 use crate::marks::{Class, behind_blanks, is_sign, split_run};
-use obo_clause::{Mark, SyntaxKind};
+use obo_clause::{MarkedByte, SyntaxKind};
 
 /// What stands behind the sign, if the marks begin with it.
-pub fn behind_sign(sign: u8, marks: &[Mark]) -> Option<&[Mark]>
+pub fn behind_sign(sign: u8, marks: &[MarkedByte]) -> Option<&[MarkedByte]>
     ensures { option_copied result ≡ read.behind_sign sign marks.now }
 {
     match marks {
@@ -18,7 +18,7 @@ pub fn behind_sign(sign: u8, marks: &[Mark]) -> Option<&[Mark]>
 }
 
 /// Whether nothing is left, or a comment.
-pub fn is_comment(marks: &[Mark]) -> bool
+pub fn is_comment(marks: &[MarkedByte]) -> bool
     ensures { result ≡ read.is_comment marks.now }
 {
     match marks {
@@ -29,7 +29,7 @@ pub fn is_comment(marks: &[Mark]) -> bool
 
 /// The word behind blanks, if there is one, and the rest.
 #[tactic(auto, unfolding(obo_clause::specs::Reading::word_at))]
-pub fn word_at(marks: &[Mark]) -> Option<(&[Mark], &[Mark])>
+pub fn word_at(marks: &[MarkedByte]) -> Option<(&[MarkedByte], &[MarkedByte])>
     ensures { MatchOption result
         (read.word_at marks.now ≡ None)
         (λ word. read.word_at marks.now ≡ Some (word.0.now, word.1.now)) }
@@ -43,7 +43,7 @@ pub fn word_at(marks: &[Mark]) -> Option<(&[Mark], &[Mark])>
 }
 
 /// The word behind blanks, and the rest.
-pub fn want_word(marks: &[Mark]) -> Result<(&[Mark], &[Mark]), SyntaxKind>
+pub fn want_word(marks: &[MarkedByte]) -> Result<(&[MarkedByte], &[MarkedByte]), SyntaxKind>
     ensures { MatchResult result
         (λ word. want_word marks.now ≡ Ok (word.0.now, word.1.now))
         (λ one. want_word marks.now ≡ Err one) }
@@ -53,7 +53,7 @@ pub fn want_word(marks: &[Mark]) -> Result<(&[Mark], &[Mark]), SyntaxKind>
 
 /// The inside of a quoted text, from behind its first `"` on, and the rest.
 #[tactic(auto, unfolding(obo_clause::specs::Reading::inside_quotes))]
-pub fn inside_quotes(marks: &[Mark]) -> Option<(&[Mark], &[Mark])>
+pub fn inside_quotes(marks: &[MarkedByte]) -> Option<(&[MarkedByte], &[MarkedByte])>
     ensures { MatchOption result
         (read.inside_quotes marks.now ≡ None)
         (λ text. read.inside_quotes marks.now ≡ Some (text.0.now, text.1.now)) }
@@ -65,7 +65,7 @@ pub fn inside_quotes(marks: &[Mark]) -> Option<(&[Mark], &[Mark])>
 
 /// The inside of the quoted text behind blanks, and the rest.
 #[tactic(auto, unfolding(obo_clause::specs::Reading::quoted_at))]
-pub fn quoted_at(marks: &[Mark]) -> Result<(&[Mark], &[Mark]), SyntaxKind>
+pub fn quoted_at(marks: &[MarkedByte]) -> Result<(&[MarkedByte], &[MarkedByte]), SyntaxKind>
     ensures { MatchResult result
         (λ text. read.quoted_at marks.now ≡ Ok (text.0.now, text.1.now))
         (λ one. read.quoted_at marks.now ≡ Err one) }
@@ -77,7 +77,7 @@ pub fn quoted_at(marks: &[Mark]) -> Result<(&[Mark], &[Mark]), SyntaxKind>
 }
 
 /// The inside of a quoted text, from behind its first `"` on, and the rest.
-pub fn end_of_quotes(marks: &[Mark]) -> Result<(&[Mark], &[Mark]), SyntaxKind>
+pub fn end_of_quotes(marks: &[MarkedByte]) -> Result<(&[MarkedByte], &[MarkedByte]), SyntaxKind>
     ensures { MatchResult result
         (λ text. read.end_of_quotes marks.now ≡ Ok (text.0.now, text.1.now))
         (λ one. read.end_of_quotes marks.now ≡ Err one) }

@@ -1,14 +1,14 @@
 //! The words behind a quoted text: scopes, types and datatypes.
 ghost use Rattle.std.specs.Prelude.{◌≡◌, IfOk};
 ghost use Rattle.std.specs.Option.{option_copied};
-ghost use Rattle.clause_reader.specs.Results.{GivesWith};
+ghost use Rattle.clause_reader.specs.inner.Results.{GivesWith};
 ghost use Rattle.obo_clause.specs.Reading.{text_read};
 ghost use Rattle.obo_clause.specs.ReadingLines as read;
 
 use crate::bytes::is_word;
 use crate::marks::text_of;
 use crate::runs::word_at;
-use obo_clause::{LineFault, Mark, Scope, SyntaxKind};
+use obo_clause::{LineFault, MarkedByte, Scope, SyntaxKind};
 use rel_io::{Bytes, NoMemory};
 use std::alloc::Global;
 
@@ -38,14 +38,14 @@ pub struct Scoped<'a> {
     /// The scope that is written, or `Related`.
     pub scope: Scope,
     /// The type, if one is written.
-    pub kind: Option<&'a [Mark]>,
+    pub kind: Option<&'a [MarkedByte]>,
     /// What stands behind both.
-    pub rest: &'a [Mark],
+    pub rest: &'a [MarkedByte],
 }
 
 /// The scope and the type behind the text of a synonym. A first word that is no scope is the type.
 #[tactic(auto, unfolding(obo_clause::specs::ReadingLines::scoped_at))]
-pub fn scoped_at(alloc: Global, marks: &[Mark]) -> Result<Scoped<'_>, NoMemory>
+pub fn scoped_at(alloc: Global, marks: &[MarkedByte]) -> Result<Scoped<'_>, NoMemory>
     ensures { IfOk result (λ found. (found.scope, text_read (option_copied found.kind), found.rest.now) ≡ read.scoped_at marks.now) }
 {
     let Some((word, rest)) = word_at(marks) else {
@@ -67,7 +67,7 @@ pub fn scoped_at(alloc: Global, marks: &[Mark]) -> Result<Scoped<'_>, NoMemory>
 }
 
 /// The type behind a scope, if there is one.
-fn type_behind(scope: Scope, marks: &[Mark]) -> Scoped<'_>
+fn type_behind(scope: Scope, marks: &[MarkedByte]) -> Scoped<'_>
     ensures { (result.scope, text_read (option_copied result.kind), result.rest.now) ≡ read.type_behind scope marks.now }
 {
     match word_at(marks) {
@@ -85,7 +85,7 @@ fn type_behind(scope: Scope, marks: &[Mark]) -> Scoped<'_>
 }
 
 /// An optional word, and the rest.
-pub fn may_have_word(marks: &[Mark]) -> (Option<&[Mark]>, &[Mark])
+pub fn may_have_word(marks: &[MarkedByte]) -> (Option<&[MarkedByte]>, &[MarkedByte])
     ensures { (option_copied result.0, result.1.now) ≡ read.may_have_word marks.now }
 {
     match word_at(marks) {
@@ -96,7 +96,10 @@ pub fn may_have_word(marks: &[Mark]) -> (Option<&[Mark]>, &[Mark])
 
 /// The scope behind the text of a synonym type, if there is one. Another word is too much.
 #[tactic(auto, unfolding(obo_clause::specs::ReadingLines::type_scope_at))]
-pub fn type_scope_at(alloc: Global, marks: &[Mark]) -> Result<(Option<Scope>, &[Mark]), LineFault>
+pub fn type_scope_at(
+    alloc: Global,
+    marks: &[MarkedByte],
+) -> Result<(Option<Scope>, &[MarkedByte]), LineFault>
     ensures { GivesWith (read.type_scope_at marks.now) result }
 {
     let Some((word, rest)) = word_at(marks) else {

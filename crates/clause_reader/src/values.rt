@@ -4,7 +4,7 @@ ghost use Rattle.std.specs.Option.{option_copied};
 ghost use Rattle.std.specs.Result.{result_map_both};
 ghost use Rattle.obo_clause.specs.Marks as spec;
 ghost use Rattle.obo_clause.specs.Reading.{end_at};
-ghost use Rattle.clause_reader.specs.Results.{Gives};
+ghost use Rattle.clause_reader.specs.inner.Results.{Gives};
 ghost use Rattle.obo_tags.specs.declared.kind.ValueShape.TheVariants.{Raw};
 ghost use Rattle.obo_clause.specs.ReadingLines as read;
 
@@ -14,7 +14,7 @@ use crate::lists::list_at;
 use crate::marks::{behind_blanks, marks_of, text_if_any, text_of, trim_end};
 use crate::runs::{behind_sign, quoted_at, want_word, word_at};
 use crate::scopes::{may_have_word, scoped_at, type_scope_at};
-use obo_clause::{LineFault, Mark, QualifiedValue, Qualifier, SyntaxKind, Value, Xref};
+use obo_clause::{LineFault, MarkedByte, QualifiedValue, Qualifier, SyntaxKind, Value, Xref};
 use obo_tags::ValueShape;
 use rel_io::{Bytes, Items, NoMemory};
 use std::alloc::Global;
@@ -40,7 +40,7 @@ pub fn read_shape(
 fn read_marked(
     alloc: Global,
     shape: ValueShape,
-    marks: &[Mark],
+    marks: &[MarkedByte],
 ) -> Result<QualifiedValue, LineFault>
     requires { shape ≢ Raw }
     ensures { (bytes : List ℕ) → marks.now ≡ spec.marks_of bytes → Gives (read.read_shape shape bytes) result }
@@ -76,8 +76,8 @@ fn read_raw(alloc: Global, bytes: &[u8]) -> Result<QualifiedValue, LineFault>
 /// A text, and the qualifiers of the ending behind it.
 fn text_to_end(
     alloc: Global,
-    text: &[Mark],
-    rest: &[Mark],
+    text: &[MarkedByte],
+    rest: &[MarkedByte],
 ) -> Result<(Bytes, Items<Qualifier>), LineFault>
     ensures text { IfOk result (λ one. one.0 ≡ spec.read_as text.now) }
     ensures ending { Gives (end_at rest.now) (result_map_both (λ one. one.1) (λ fault. fault) result) }
@@ -90,9 +90,9 @@ fn text_to_end(
 /// Two texts, and the qualifiers of the ending behind them.
 fn texts_to_end(
     alloc: Global,
-    first: &[Mark],
-    second: &[Mark],
-    rest: &[Mark],
+    first: &[MarkedByte],
+    second: &[MarkedByte],
+    rest: &[MarkedByte],
 ) -> Result<(Bytes, Bytes, Items<Qualifier>), LineFault>
     ensures first { IfOk result (λ one. one.0 ≡ spec.read_as first.now) }
     ensures second { IfOk result (λ one. one.1 ≡ spec.read_as second.now) }
@@ -105,7 +105,7 @@ fn texts_to_end(
 
 /// A run of characters.
 #[tactic(auto, unfolding(obo_clause::specs::ReadingLines::read_text))]
-fn read_text(alloc: Global, marks: &[Mark]) -> Result<QualifiedValue, LineFault>
+fn read_text(alloc: Global, marks: &[MarkedByte]) -> Result<QualifiedValue, LineFault>
     ensures { Gives (read.read_text marks.now) result }
 {
     let FreeRun {
@@ -130,7 +130,7 @@ fn read_text(alloc: Global, marks: &[Mark]) -> Result<QualifiedValue, LineFault>
 
 /// One word.
 #[tactic(auto, unfolding(obo_clause::specs::ReadingLines::read_id))]
-fn read_id(alloc: Global, marks: &[Mark]) -> Result<QualifiedValue, LineFault>
+fn read_id(alloc: Global, marks: &[MarkedByte]) -> Result<QualifiedValue, LineFault>
     ensures { Gives (read.read_id marks.now) result }
 {
     let (word, rest) = want_word(marks)?;
@@ -143,7 +143,7 @@ fn read_id(alloc: Global, marks: &[Mark]) -> Result<QualifiedValue, LineFault>
 
 /// Two words.
 #[tactic(auto, unfolding(obo_clause::specs::ReadingLines::read_pair))]
-fn read_pair(alloc: Global, marks: &[Mark]) -> Result<QualifiedValue, LineFault>
+fn read_pair(alloc: Global, marks: &[MarkedByte]) -> Result<QualifiedValue, LineFault>
     ensures { Gives (read.read_pair marks.now) result }
 {
     let (first, rest) = want_word(marks)?;
@@ -157,7 +157,7 @@ fn read_pair(alloc: Global, marks: &[Mark]) -> Result<QualifiedValue, LineFault>
 
 /// One word, or two.
 #[tactic(auto, unfolding(obo_clause::specs::ReadingLines::read_id, obo_clause::specs::ReadingLines::read_pair, obo_clause::specs::ReadingLines::read_id_or_pair))]
-fn read_id_or_pair(alloc: Global, marks: &[Mark]) -> Result<QualifiedValue, LineFault>
+fn read_id_or_pair(alloc: Global, marks: &[MarkedByte]) -> Result<QualifiedValue, LineFault>
     ensures { Gives (read.read_id_or_pair marks.now) result }
 {
     let (_, rest) = want_word(marks)?;
@@ -185,7 +185,7 @@ fn truth_of(word: &Bytes) -> Result<bool, SyntaxKind>
 
 /// A truth value.
 #[tactic(auto, unfolding(obo_clause::specs::ReadingLines::read_bool))]
-fn read_bool(alloc: Global, marks: &[Mark]) -> Result<QualifiedValue, LineFault>
+fn read_bool(alloc: Global, marks: &[MarkedByte]) -> Result<QualifiedValue, LineFault>
     ensures { Gives (read.read_bool marks.now) result }
 {
     let (word, rest) = want_word(marks)?;
@@ -199,7 +199,7 @@ fn read_bool(alloc: Global, marks: &[Mark]) -> Result<QualifiedValue, LineFault>
 
 /// A quoted text and its dbxrefs.
 #[tactic(auto, unfolding(obo_clause::specs::ReadingLines::read_definition))]
-fn read_definition(alloc: Global, marks: &[Mark]) -> Result<QualifiedValue, LineFault>
+fn read_definition(alloc: Global, marks: &[MarkedByte]) -> Result<QualifiedValue, LineFault>
     ensures { Gives (read.read_definition marks.now) result }
 {
     let (text, rest) = quoted_at(marks)?;
@@ -218,7 +218,7 @@ fn read_definition(alloc: Global, marks: &[Mark]) -> Result<QualifiedValue, Line
 
 /// A quoted text, its scope, its type and its dbxrefs.
 #[tactic(auto, unfolding(obo_clause::specs::ReadingLines::read_synonym))]
-fn read_synonym(alloc: Global, marks: &[Mark]) -> Result<QualifiedValue, LineFault>
+fn read_synonym(alloc: Global, marks: &[MarkedByte]) -> Result<QualifiedValue, LineFault>
     ensures { Gives (read.read_synonym marks.now) result }
 {
     let (text, rest) = quoted_at(marks)?;
@@ -245,7 +245,7 @@ fn read_synonym(alloc: Global, marks: &[Mark]) -> Result<QualifiedValue, LineFau
 
 /// A run of characters, and its label.
 #[tactic(auto, unfolding(obo_clause::specs::ReadingLines::read_xref))]
-fn read_xref(alloc: Global, marks: &[Mark]) -> Result<QualifiedValue, LineFault>
+fn read_xref(alloc: Global, marks: &[MarkedByte]) -> Result<QualifiedValue, LineFault>
     ensures { Gives (read.read_xref marks.now) result }
 {
     let FreeRun {
@@ -274,7 +274,11 @@ fn read_xref(alloc: Global, marks: &[Mark]) -> Result<QualifiedValue, LineFault>
 }
 
 /// A label behind the run of an xref.
-fn labelled(alloc: Global, id: &[Mark], marks: &[Mark]) -> Result<QualifiedValue, LineFault>
+fn labelled(
+    alloc: Global,
+    id: &[MarkedByte],
+    marks: &[MarkedByte],
+) -> Result<QualifiedValue, LineFault>
     ensures { Gives (read.labelled (spec.read_as id.now) marks.now) result }
 {
     let (label, rest) = quoted_at(marks)?;
@@ -290,7 +294,7 @@ fn labelled(alloc: Global, id: &[Mark], marks: &[Mark]) -> Result<QualifiedValue
 
 /// A property, and a quoted text with its datatype or a word.
 #[tactic(auto, unfolding(obo_clause::specs::ReadingLines::read_property))]
-fn read_property(alloc: Global, marks: &[Mark]) -> Result<QualifiedValue, LineFault>
+fn read_property(alloc: Global, marks: &[MarkedByte]) -> Result<QualifiedValue, LineFault>
     ensures { Gives (read.read_property marks.now) result }
 {
     let (relation, rest) = want_word(marks)?;
@@ -304,8 +308,8 @@ fn read_property(alloc: Global, marks: &[Mark]) -> Result<QualifiedValue, LineFa
 #[tactic(auto, unfolding(obo_clause::specs::ReadingLines::read_literal))]
 fn read_literal(
     alloc: Global,
-    relation: &[Mark],
-    marks: &[Mark],
+    relation: &[MarkedByte],
+    marks: &[MarkedByte],
 ) -> Result<QualifiedValue, LineFault>
     ensures { Gives (read.read_literal (spec.read_as relation.now) marks.now) result }
 {
@@ -329,7 +333,7 @@ fn read_literal(
 }
 
 /// The datatype that a word is, or that of a text that has none.
-fn datatype_of(alloc: Global, word: Option<&[Mark]>) -> Result<Bytes, LineFault>
+fn datatype_of(alloc: Global, word: Option<&[MarkedByte]>) -> Result<Bytes, LineFault>
     ensures { Gives (Ok (read.datatype_of (option_copied word.entry))) result }
 {
     match word {
@@ -340,7 +344,11 @@ fn datatype_of(alloc: Global, word: Option<&[Mark]>) -> Result<Bytes, LineFault>
 
 /// A word behind its property.
 #[tactic(auto, unfolding(obo_clause::specs::ReadingLines::read_link))]
-fn read_link(alloc: Global, relation: &[Mark], marks: &[Mark]) -> Result<QualifiedValue, LineFault>
+fn read_link(
+    alloc: Global,
+    relation: &[MarkedByte],
+    marks: &[MarkedByte],
+) -> Result<QualifiedValue, LineFault>
     ensures { Gives (read.read_link (spec.read_as relation.now) marks.now) result }
 {
     let (target, rest) = want_word(marks)?;
@@ -353,7 +361,7 @@ fn read_link(alloc: Global, relation: &[Mark], marks: &[Mark]) -> Result<Qualifi
 
 /// A word and a quoted text.
 #[tactic(auto, unfolding(obo_clause::specs::ReadingLines::read_subset))]
-fn read_subset(alloc: Global, marks: &[Mark]) -> Result<QualifiedValue, LineFault>
+fn read_subset(alloc: Global, marks: &[MarkedByte]) -> Result<QualifiedValue, LineFault>
     ensures { Gives (read.read_subset marks.now) result }
 {
     let (id, rest) = want_word(marks)?;
@@ -367,7 +375,7 @@ fn read_subset(alloc: Global, marks: &[Mark]) -> Result<QualifiedValue, LineFaul
 
 /// A word, a quoted text, and its scope.
 #[tactic(auto, unfolding(obo_clause::specs::ReadingLines::read_synonym_type))]
-fn read_synonym_type(alloc: Global, marks: &[Mark]) -> Result<QualifiedValue, LineFault>
+fn read_synonym_type(alloc: Global, marks: &[MarkedByte]) -> Result<QualifiedValue, LineFault>
     ensures { Gives (read.read_synonym_type marks.now) result }
 {
     let (id, rest) = want_word(marks)?;

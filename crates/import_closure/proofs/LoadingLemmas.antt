@@ -3,7 +3,7 @@ use Rattle.std.proofs.Common.{◌≡◌, ℕ, ◌≤◌, List, [], ◌++◌, Opt
 use Rattle.std.proofs.lemmas.List.Elements.{Contains-append_left, Contains-append_right}
 use Rattle.rel_io.specs.Count.{Rose}
 use Rattle.rel_io.specs.FolderState.{Files, FolderState, NoCountFell}
-use Rattle.import_closure.specs.Loading.{Cause, FailsBy, GivesAs, Loading, LoadsAs, Same, absent, behind, cause_of, not_read, ran_out, refused, then_load}
+use Rattle.import_closure.specs.Loading.{Cause, FailsBy, GivesAs, Loading, LoadsAs, Same, absent, cause_of, load_behind, not_read, ran_out, refused, then_load}
 use Rattle.import_closure.specs.declared.fault.LoadFault.{LoadFault}
 use Rattle.import_closure.specs.declared.files.SourceFile.{SourceFile}
 
@@ -16,11 +16,11 @@ if_told (Some x) f h = f x refl h
 -- ---- the first of two
 
 refused-first : {A B : Type 0} (first : Loading A) (next : A → Loading B) (one : LoadFault) → first.answer ≡ Err one → (then_load first next).answer ≡ Err one
-refused-first first next one is = ap (λ answer. (behind first.opened answer next).answer) is
+refused-first first next one is = ap (λ answer. (load_behind first.opened answer next).answer) is
 
-opened-behind : {A B : Type 0} (opened : List (List ℕ)) (answer : Result A LoadFault) (next : A → Loading B) (name : List ℕ) → Contains opened name → Contains (behind opened answer next).opened name
-opened-behind opened (Ok value) next name among = Contains-append_left opened (next value).opened name among
-opened-behind opened (Err one) next name among = among
+opened-load_behind : {A B : Type 0} (opened : List (List ℕ)) (answer : Result A LoadFault) (next : A → Loading B) (name : List ℕ) → Contains opened name → Contains (load_behind opened answer next).opened name
+opened-load_behind opened (Ok value) next name among = Contains-append_left opened (next value).opened name among
+opened-load_behind opened (Err one) next name among = among
 
 -- what the first fails with, both fail with
 pub fails_first : {A B : Type 0} (cause : Cause) (first : Files → Loading A) (next : Files → A → Loading B) (before now : FolderState) (one : LoadFault) → FailsBy cause first before one now → FailsBy cause (λ files. then_load (first files) (next files)) before one now
@@ -29,7 +29,7 @@ fails_first refused first next before now one fails =
 fails_first absent first next before now one fails =
     (if_told before.holds (λ files _ is. refused-first (first files) (next files) one is) fails.0, fails.1)
 fails_first (not_read name) first next before now one fails =
-    (if_told before.holds (λ files _ among. opened-behind (first files).opened (first files).answer (next files) name among) fails.0, fails.1)
+    (if_told before.holds (λ files _ among. opened-load_behind (first files).opened (first files).answer (next files) name among) fails.0, fails.1)
 fails_first ran_out first next before now one fails = tt
 
 -- ---- what is loaded behind files that were read
@@ -76,8 +76,8 @@ loads_ahead rest whole before mid now (Err one) holds counts ahead loads =
 -- where the first gives a value, what goes on with it is ahead of both
 pub ahead_then : {A : Type 0} (first : Loading A) (next : A → Loading (List SourceFile)) (value : A) → first.answer ≡ Ok value → IsAhead [] (next value) (then_load first next)
 ahead_then first next value is = record {
-  answer = nothing_before (next value).answer ∙ sym (ap (λ answer. (behind first.opened answer next).answer) is);
-  opened = λ name among. subst (λ answer. Contains (behind first.opened answer next).opened name) (sym is) (Contains-append_right first.opened (next value).opened name among);
+  answer = nothing_before (next value).answer ∙ sym (ap (λ answer. (load_behind first.opened answer next).answer) is);
+  opened = λ name among. subst (λ answer. Contains (load_behind first.opened answer next).opened name) (sym is) (Contains-append_right first.opened (next value).opened name among);
 }
   where
     nothing_before : (answer : Result (List SourceFile) LoadFault) → with_sources [] answer ≡ answer

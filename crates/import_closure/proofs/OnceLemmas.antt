@@ -16,7 +16,7 @@ use Rattle.import_closure.specs.Closure.{Setting, closure, document_answer, file
 use Rattle.import_closure.specs.Imports.{asked_by}
 use Rattle.import_closure.specs.Laws.{AreApart, EachIsReadOnce}
 use Rattle.import_closure.specs.List.{Listed, inputs_listed, is_listed, listed, with_all_new, with_new}
-use Rattle.import_closure.specs.Loading.{Loading, behind, gives, refuses, then_load}
+use Rattle.import_closure.specs.Loading.{Loading, gives, load_behind, refuses, then_load}
 use Rattle.import_closure.specs.declared.fault.LoadFault.{LoadFault}
 use Rattle.import_closure.specs.declared.fault.LoadFault.TheVariants as fault
 use Rattle.import_closure.specs.declared.list.Asker.TheVariants.{Input}
@@ -88,7 +88,7 @@ record IsThen (A B : Type 0) (first : Result A LoadFault) (next : A → Loading 
   first_is : first ≡ Ok one
   next_is : (next one).answer ≡ Ok value
 
-then_ok : {A B : Type 0} (opened : List (List ℕ)) (first : Result A LoadFault) (next : A → Loading B) (value : B) → (behind opened first next).answer ≡ Ok value → IsThen A B first next value
+then_ok : {A B : Type 0} (opened : List (List ℕ)) (first : Result A LoadFault) (next : A → Loading B) (value : B) → (load_behind opened first next).answer ≡ Ok value → IsThen A B first next value
 then_ok opened (Ok one) next value is = record { one = one; first_is = refl; next_is = is }
 then_ok opened (Err fault) next value is = absurd (cc)
 

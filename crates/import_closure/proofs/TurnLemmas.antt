@@ -11,7 +11,7 @@ use Rattle.catalog_file.specs.declared.catalog.CatalogLine.{CatalogLine}
 use Rattle.import_closure.specs.Closure.{Setting, closure, setting, size_in, turn, turns, with_file}
 use Rattle.import_closure.specs.Imports.{asked_by}
 use Rattle.import_closure.specs.List.{Listed, inputs_listed, with_all_new}
-use Rattle.import_closure.specs.Loading.{FailsBy, GivesAs, Loading, Same, behind, cause_of, gives, refuses, then_load}
+use Rattle.import_closure.specs.Loading.{FailsBy, GivesAs, Loading, Same, cause_of, gives, load_behind, refuses, then_load}
 use Rattle.import_closure.specs.declared.fault.LoadFault.{LoadFault}
 use Rattle.import_closure.specs.declared.fault.LoadFault.TheVariants as fault
 use Rattle.import_closure.specs.declared.files.SourceFile.{SourceFile}
@@ -45,11 +45,11 @@ turns-end s (suc room) left list at none = rw none refl
 ahead-file : (source : SourceFile) (others : Loading (List SourceFile)) → IsAhead (source ∷ []) others (with_file source others)
 ahead-file source others = record { answer = joined others.opened others.answer; opened = λ name among. opened-still others.opened others.answer name among }
   where
-    joined : (opened : List (List ℕ)) (answer : Result (List SourceFile) LoadFault) → with_sources (source ∷ []) answer ≡ (behind opened answer (λ sources. gives (source ∷ sources))).answer
+    joined : (opened : List (List ℕ)) (answer : Result (List SourceFile) LoadFault) → with_sources (source ∷ []) answer ≡ (load_behind opened answer (λ sources. gives (source ∷ sources))).answer
     joined opened (Ok sources) = refl
     joined opened (Err one) = refl
 
-    opened-still : (opened : List (List ℕ)) (answer : Result (List SourceFile) LoadFault) (name : List ℕ) → Contains opened name → Contains (behind opened answer (λ sources. gives (source ∷ sources))).opened name
+    opened-still : (opened : List (List ℕ)) (answer : Result (List SourceFile) LoadFault) (name : List ℕ) → Contains opened name → Contains (load_behind opened answer (λ sources. gives (source ∷ sources))).opened name
     opened-still opened (Ok sources) name among = subst (λ names. Contains names name) (sym (append-nil opened)) among
     opened-still opened (Err one) name among = among
 

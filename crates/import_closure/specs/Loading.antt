@@ -24,13 +24,13 @@ abbrev pub opens : {A : Type 0} → List ℕ → Result A LoadFault → Loading 
 opens name answer = record { opened = name ∷ []; answer = answer }
 
 -- what goes on behind files that were opened
-abbrev pub behind : {A B : Type 0} → List (List ℕ) → Result A LoadFault → (A → Loading B) → Loading B
-behind opened (Ok value) next = record { opened = opened ++ (next value).opened; answer = (next value).answer }
-behind opened (Err one) next = record { opened = opened; answer = Err one }
+abbrev pub load_behind : {A B : Type 0} → List (List ℕ) → Result A LoadFault → (A → Loading B) → Loading B
+load_behind opened (Ok value) next = record { opened = opened ++ (next value).opened; answer = (next value).answer }
+load_behind opened (Err one) next = record { opened = opened; answer = Err one }
 
 -- one loading and then another, which goes on with what the first gives: a refusal ends both
 abbrev pub then_load : {A B : Type 0} → Loading A → (A → Loading B) → Loading B
-then_load first next = behind first.opened first.answer next
+then_load first next = load_behind first.opened first.answer next
 
 -- ---- what an answer says
 

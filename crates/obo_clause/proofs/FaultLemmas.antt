@@ -8,7 +8,7 @@ use Rattle.obo_clause.specs.declared.line.SyntaxKind.{SyntaxKind}
 use Rattle.obo_clause.specs.declared.line.SyntaxKind.TheVariants as syntax
 use Rattle.obo_clause.specs.declared.clause.QualifiedValue.{QualifiedValue}
 use Rattle.obo_clause.specs.Faults.{IsBehindBlanks, MayBeScope, MayHaveList, MayHaveScope, MayHaveWord, Stops, WantsEnd, WantsObject, WantsQuoted, WantsTruth, WantsWord, Wrong}
-use Rattle.obo_clause.specs.Marks.{Mark, read_as}
+use Rattle.obo_clause.specs.Marks.{MarkedByte, read_as}
 use Rattle.obo_clause.specs.Reading.{Answer, behind_blanks, behind_sign, found, list_at, next, quoted_at, wanted, word_at}
 use Rattle.obo_clause.specs.ReadingLines.{Scoped, datatype_of, ended, may_have_word, read_bool, read_definition, read_id, read_id_or_pair, read_link, read_literal, read_pair, read_property, read_subset, read_synonym, read_synonym_type, scope_of, scoped_at, truth_of, type_behind, type_scope_at, want_truth, want_word}
 use Rattle.obo_clause.specs.Spelling.{scope_word}
@@ -23,7 +23,7 @@ use Rattle.obo_clause.proofs.WordLemmas.{HasQuoted, Two, blanks-at, blanks-of, q
 -- ---- wanted words
 
 module _ {B : Type 0} (go_on : Two → Answer B) (after : List ℕ → Wrong) where
-  pub word-wrong : ((word : Two) (one : SyntaxKind) → go_on word ≡ Err one → after (read_as word.0) word.1 one) → (marks : List Mark) (one : SyntaxKind) → next (want_word marks) go_on ≡ Err one → WantsWord after marks one
+  pub word-wrong : ((word : Two) (one : SyntaxKind) → go_on word ≡ Err one → after (read_as word.0) word.1 one) → (marks : List MarkedByte) (one : SyntaxKind) → next (want_word marks) go_on ≡ Err one → WantsWord after marks one
   word-wrong later marks one h = go (went-wrong (want_word marks) go_on one h)
     where
       go : WentWrong (want_word marks) go_on one → WantsWord after marks one
@@ -33,7 +33,7 @@ module _ {B : Type 0} (go_on : Two → Answer B) (after : List ℕ → Wrong) wh
       go (WentWrong.later word e is) =
           WantsWord.later (read_as word.0) word.1 one (run-has marks word.0 word.1 (want-found marks word e)) (later word one is)
 
-  pub word-refuses : ((word : Two) (one : SyntaxKind) → after (read_as word.0) word.1 one → go_on word ≡ Err one) → (marks : List Mark) (one : SyntaxKind) → WantsWord after marks one → next (want_word marks) go_on ≡ Err one
+  pub word-refuses : ((word : Two) (one : SyntaxKind) → after (read_as word.0) word.1 one → go_on word ≡ Err one) → (marks : List MarkedByte) (one : SyntaxKind) → WantsWord after marks one → next (want_word marks) go_on ≡ Err one
   word-refuses later marks _ (WantsWord.missing no_word) =
       not-on (want_word marks) go_on syntax.NoValue (ap (wanted syntax.NoValue) (word-none marks no_word))
   word-refuses later marks _ (WantsWord.later word rest one has fails) =
@@ -43,7 +43,7 @@ module _ {B : Type 0} (go_on : Two → Answer B) (after : List ℕ → Wrong) wh
 
 -- ---- words that may be there
 
-module _ {B : Type 0} (none : Answer B) (some : Two → Answer B) (after : Option (List ℕ) → Wrong) (marks : List Mark) where
+module _ {B : Type 0} (none : Answer B) (some : Two → Answer B) (after : Option (List ℕ) → Wrong) (marks : List MarkedByte) where
   pub may-wrong : ((one : SyntaxKind) → none ≡ Err one → after None marks one) → ((word : Two) (one : SyntaxKind) → some word ≡ Err one → after (Some (read_as word.0)) word.1 one) → (one : SyntaxKind) → found {B = Answer B} (word_at marks) none some ≡ Err one → MayHaveWord after marks one
   may-wrong without later one h = go (word_at marks) refl h
     where
@@ -67,7 +67,7 @@ through go_on (Some one) none some = refl
 -- ---- quoted texts
 
 module _ {B : Type 0} (go_on : Two → Answer B) (after : Wrong) where
-  pub quoted-wrong : ((text : Two) (one : SyntaxKind) → go_on text ≡ Err one → after text.1 one) → (marks : List Mark) (one : SyntaxKind) → next (quoted_at marks) go_on ≡ Err one → WantsQuoted after marks one
+  pub quoted-wrong : ((text : Two) (one : SyntaxKind) → go_on text ≡ Err one → after text.1 one) → (marks : List MarkedByte) (one : SyntaxKind) → next (quoted_at marks) go_on ≡ Err one → WantsQuoted after marks one
   quoted-wrong later marks one h = go (went-wrong (quoted_at marks) go_on one h)
     where
       go : WentWrong (quoted_at marks) go_on one → WantsQuoted after marks one
@@ -77,7 +77,7 @@ module _ {B : Type 0} (go_on : Two → Answer B) (after : Wrong) where
           let all = quoted-rest text.0 text.1 in
           WantsQuoted.later (quoted_marks text.0) text.1 (read_as text.0) one (record { blanks = has.blanks; whole = has.whole ∙ ap (λ l. has.blanks ++ l) (sym all); blank = has.blank; stops = subst (Stops is_space) (sym all) refl }) (quoted-is text.0 has.each) (later text one is)
 
-  pub quoted-refuses : ((text : Two) (one : SyntaxKind) → after text.1 one → go_on text ≡ Err one) → (marks : List Mark) (one : SyntaxKind) → WantsQuoted after marks one → next (quoted_at marks) go_on ≡ Err one
+  pub quoted-refuses : ((text : Two) (one : SyntaxKind) → after text.1 one → go_on text ≡ Err one) → (marks : List MarkedByte) (one : SyntaxKind) → WantsQuoted after marks one → next (quoted_at marks) go_on ≡ Err one
   quoted-refuses later marks _ (WantsQuoted.missing rest at stops) = not-on (quoted_at marks) go_on syntax.NoQuote (quoted-missing marks rest at stops)
   quoted-refuses later marks _ (WantsQuoted.endless rest at each) = not-on (quoted_at marks) go_on syntax.OpenQuote (quoted-endless marks rest at each)
   quoted-refuses later marks _ (WantsQuoted.later quoted rest text one at q fails) =
@@ -87,7 +87,7 @@ module _ {B : Type 0} (go_on : Two → Answer B) (after : Wrong) where
 -- ---- lists
 
 module _ {B : Type 0} (go_on : Listed → Answer B) (after : Wrong) where
-  pub list-wrong : ((listed : Listed) (one : SyntaxKind) → go_on listed ≡ Err one → after listed.1 one) → (marks : List Mark) (one : SyntaxKind) → next (list_at marks) go_on ≡ Err one → MayHaveList after marks one
+  pub list-wrong : ((listed : Listed) (one : SyntaxKind) → go_on listed ≡ Err one → after listed.1 one) → (marks : List MarkedByte) (one : SyntaxKind) → next (list_at marks) go_on ≡ Err one → MayHaveList after marks one
   list-wrong later marks one h = go (went-wrong (list_at marks) go_on one h)
     where
       form : (listed : Listed) → ListForm marks listed → after listed.1 one → MayHaveList after marks one
@@ -99,7 +99,7 @@ module _ {B : Type 0} (go_on : Listed → Answer B) (after : Wrong) where
       go (WentWrong.at_once e) = list-fails after marks one e
       go (WentWrong.later listed e is) = form listed (list-found marks listed e) (later listed one is)
 
-  pub list-refuses : ((listed : Listed) (one : SyntaxKind) → after listed.1 one → go_on listed ≡ Err one) → (marks : List Mark) (one : SyntaxKind) → MayHaveList after marks one → next (list_at marks) go_on ≡ Err one
+  pub list-refuses : ((listed : Listed) (one : SyntaxKind) → after listed.1 one → go_on listed ≡ Err one) → (marks : List MarkedByte) (one : SyntaxKind) → MayHaveList after marks one → next (list_at marks) go_on ≡ Err one
   list-refuses later marks _ (MayHaveList.without rest one at stops fails) =
       on-with (list_at marks) go_on ([], marks) (list-without marks rest at stops) ∙ later ([], marks) one fails
   list-refuses later marks _ (MayHaveList.broken rest one at fails) = not-on (list_at marks) go_on one (list-broken marks rest one at fails)
@@ -109,35 +109,35 @@ module _ {B : Type 0} (go_on : Listed → Answer B) (after : Wrong) where
 
 -- ---- values of words
 
-pub id-wrong : (marks : List Mark) (one : SyntaxKind) → read_id marks ≡ Err one → WantsWord (λ _. WantsEnd) marks one
+pub id-wrong : (marks : List MarkedByte) (one : SyntaxKind) → read_id marks ≡ Err one → WantsWord (λ _. WantsEnd) marks one
 unfolding read_id
 id-wrong marks one h =
     word-wrong (λ (word : Two). ended word.1 (value.Id (read_as word.0))) (λ _. WantsEnd) (λ word one. ended-fails word.1 (value.Id (read_as word.0)) one) marks one h
 
-pub id-refuses : (marks : List Mark) (one : SyntaxKind) → WantsWord (λ _. WantsEnd) marks one → read_id marks ≡ Err one
+pub id-refuses : (marks : List MarkedByte) (one : SyntaxKind) → WantsWord (λ _. WantsEnd) marks one → read_id marks ≡ Err one
 unfolding read_id
 id-refuses marks one h =
     word-refuses (λ (word : Two). ended word.1 (value.Id (read_as word.0))) (λ _. WantsEnd) (λ word one. ended-refuses word.1 (value.Id (read_as word.0)) one) marks one h
 
-pub pair-wrong : (marks : List Mark) (one : SyntaxKind) → read_pair marks ≡ Err one → WantsWord (λ _. WantsWord (λ _. WantsEnd)) marks one
+pub pair-wrong : (marks : List MarkedByte) (one : SyntaxKind) → read_pair marks ≡ Err one → WantsWord (λ _. WantsWord (λ _. WantsEnd)) marks one
 unfolding read_pair
 pair-wrong marks one h =
     word-wrong (λ (word : Two). next (want_word word.1) (λ (second : Two). ended second.1 (value.Pair (read_as word.0) (read_as second.0)))) (λ _. WantsWord (λ _. WantsEnd))
     (λ word one. word-wrong (λ (second : Two). ended second.1 (value.Pair (read_as word.0) (read_as second.0))) (λ _. WantsEnd) (λ second one. ended-fails second.1 (value.Pair (read_as word.0) (read_as second.0)) one) word.1 one) marks one h
 
-pub pair-refuses : (marks : List Mark) (one : SyntaxKind) → WantsWord (λ _. WantsWord (λ _. WantsEnd)) marks one → read_pair marks ≡ Err one
+pub pair-refuses : (marks : List MarkedByte) (one : SyntaxKind) → WantsWord (λ _. WantsWord (λ _. WantsEnd)) marks one → read_pair marks ≡ Err one
 unfolding read_pair
 pair-refuses marks one h =
     word-refuses (λ (word : Two). next (want_word word.1) (λ (second : Two). ended second.1 (value.Pair (read_as word.0) (read_as second.0)))) (λ _. WantsWord (λ _. WantsEnd))
     (λ word one. word-refuses (λ (second : Two). ended second.1 (value.Pair (read_as word.0) (read_as second.0))) (λ _. WantsEnd) (λ second one. ended-refuses second.1 (value.Pair (read_as word.0) (read_as second.0)) one) word.1 one) marks one h
 
-pub id_or_pair-wrong : (marks : List Mark) (one : SyntaxKind) → read_id_or_pair marks ≡ Err one → WantsWord (λ _. MayHaveWord (λ _. WantsEnd)) marks one
+pub id_or_pair-wrong : (marks : List MarkedByte) (one : SyntaxKind) → read_id_or_pair marks ≡ Err one → WantsWord (λ _. MayHaveWord (λ _. WantsEnd)) marks one
 unfolding read_id_or_pair
 id_or_pair-wrong marks one h =
     word-wrong (λ (word : Two). found {B = Answer QualifiedValue} (word_at word.1) (ended word.1 (value.Id (read_as word.0))) (λ (second : Two). ended second.1 (value.Pair (read_as word.0) (read_as second.0)))) (λ _. MayHaveWord (λ _. WantsEnd))
     (λ word. may-wrong (ended word.1 (value.Id (read_as word.0))) (λ (second : Two). ended second.1 (value.Pair (read_as word.0) (read_as second.0))) (λ _. WantsEnd) word.1 (ended-fails word.1 (value.Id (read_as word.0))) (λ second one. ended-fails second.1 (value.Pair (read_as word.0) (read_as second.0)) one)) marks one h
 
-pub id_or_pair-refuses : (marks : List Mark) (one : SyntaxKind) → WantsWord (λ _. MayHaveWord (λ _. WantsEnd)) marks one → read_id_or_pair marks ≡ Err one
+pub id_or_pair-refuses : (marks : List MarkedByte) (one : SyntaxKind) → WantsWord (λ _. MayHaveWord (λ _. WantsEnd)) marks one → read_id_or_pair marks ≡ Err one
 unfolding read_id_or_pair
 id_or_pair-refuses marks one h =
     word-refuses (λ (word : Two). found {B = Answer QualifiedValue} (word_at word.1) (ended word.1 (value.Id (read_as word.0))) (λ (second : Two). ended second.1 (value.Pair (read_as word.0) (read_as second.0)))) (λ _. MayHaveWord (λ _. WantsEnd))
@@ -159,25 +159,25 @@ truth-refuses word _ (WantsTruth.other never) =
 truth-refuses word _ (WantsTruth.later truth one is fails) =
     on-with (want_truth (read_as word.0)) (λ (truth : Bool). ended word.1 (value.Bool truth)) truth (ap (wanted syntax.BadBool) (truth-of (read_as word.0) truth is)) ∙ ended-refuses word.1 (value.Bool truth) one fails
 
-pub bool-wrong : (marks : List Mark) (one : SyntaxKind) → read_bool marks ≡ Err one → WantsWord WantsTruth marks one
+pub bool-wrong : (marks : List MarkedByte) (one : SyntaxKind) → read_bool marks ≡ Err one → WantsWord WantsTruth marks one
 unfolding read_bool
 bool-wrong marks one h =
     word-wrong (λ (word : Two). next (want_truth (read_as word.0)) (λ (truth : Bool). ended word.1 (value.Bool truth))) WantsTruth truth-wrong marks one h
 
-pub bool-refuses : (marks : List Mark) (one : SyntaxKind) → WantsWord WantsTruth marks one → read_bool marks ≡ Err one
+pub bool-refuses : (marks : List MarkedByte) (one : SyntaxKind) → WantsWord WantsTruth marks one → read_bool marks ≡ Err one
 unfolding read_bool
 bool-refuses marks one h =
     word-refuses (λ (word : Two). next (want_truth (read_as word.0)) (λ (truth : Bool). ended word.1 (value.Bool truth))) WantsTruth truth-refuses marks one h
 
 -- ---- values of quoted texts
 
-pub definition-wrong : (marks : List Mark) (one : SyntaxKind) → read_definition marks ≡ Err one → WantsQuoted (MayHaveList WantsEnd) marks one
+pub definition-wrong : (marks : List MarkedByte) (one : SyntaxKind) → read_definition marks ≡ Err one → WantsQuoted (MayHaveList WantsEnd) marks one
 unfolding read_definition
 definition-wrong marks one h =
     quoted-wrong (λ (text : Two). next (list_at text.1) (λ (list : Listed). ended list.1 (value.Def (read_as text.0) list.0))) (MayHaveList WantsEnd)
     (λ text. list-wrong (λ (list : Listed). ended list.1 (value.Def (read_as text.0) list.0)) WantsEnd (λ listed. ended-fails listed.1 (value.Def (read_as text.0) listed.0)) text.1) marks one h
 
-pub definition-refuses : (marks : List Mark) (one : SyntaxKind) → WantsQuoted (MayHaveList WantsEnd) marks one → read_definition marks ≡ Err one
+pub definition-refuses : (marks : List MarkedByte) (one : SyntaxKind) → WantsQuoted (MayHaveList WantsEnd) marks one → read_definition marks ≡ Err one
 unfolding read_definition
 definition-refuses marks one h =
     quoted-refuses (λ (text : Two). next (list_at text.1) (λ (list : Listed). ended list.1 (value.Def (read_as text.0) list.0))) (MayHaveList WantsEnd)
@@ -197,13 +197,13 @@ module _ (text : List ℕ) where
   abbrev after_scope : Scope → Two → Answer QualifiedValue
   after_scope one type = listed_on (one, Some (read_as type.0), type.1)
 
-  type-through : (one : Scope) (marks : List Mark) → listed_on (type_behind one marks) ≡ found {B = Answer QualifiedValue} (word_at marks) (listed_on (one, None, marks)) (after_scope one)
+  type-through : (one : Scope) (marks : List MarkedByte) → listed_on (type_behind one marks) ≡ found {B = Answer QualifiedValue} (word_at marks) (listed_on (one, None, marks)) (after_scope one)
   type-through one marks = through listed_on (word_at marks) (one, None, marks) (λ (type : Two). (one, Some (read_as type.0), type.1))
 
-  abbrev after_word : List ℕ → List Mark → Answer QualifiedValue
+  abbrev after_word : List ℕ → List MarkedByte → Answer QualifiedValue
   after_word word marks = listed_on (found {B = Scoped} (scope_of word) (scope.Related, Some word, marks) (λ (one : Scope). type_behind one marks))
 
-  scope-wrong : (word : List ℕ) (marks : List Mark) (one : SyntaxKind) → after_word word marks ≡ Err one → MayHaveScope (MayHaveList WantsEnd) (Some word) marks one
+  scope-wrong : (word : List ℕ) (marks : List MarkedByte) (one : SyntaxKind) → after_word word marks ≡ Err one → MayHaveScope (MayHaveList WantsEnd) (Some word) marks one
   scope-wrong word marks one h = go (scope_of word) refl h
     where
       go : (o : Option Scope) → scope_of word ≡ o → listed_on (found {B = Scoped} o (scope.Related, Some word, marks) (λ (one : Scope). type_behind one marks)) ≡ Err one → MayHaveScope (MayHaveList WantsEnd) (Some word) marks one
@@ -212,11 +212,11 @@ module _ (text : List ℕ) where
           let may = may-wrong (listed_on (said, None, marks)) (after_scope said) (λ _. MayHaveList WantsEnd) marks (listed-wrong (said, None, marks)) (λ type. listed-wrong (said, Some (read_as type.0), type.1)) one (sym (type-through said marks) ∙ h) in
           subst (λ w. MayHaveScope (MayHaveList WantsEnd) (Some w) marks one) (sym (scope-is word said e)) (MayHaveScope.scoped marks said one may)
 
-  abbrev after_option : Option (List ℕ) → List Mark → Answer QualifiedValue
+  abbrev after_option : Option (List ℕ) → List MarkedByte → Answer QualifiedValue
   after_option None marks = listed_on (scope.Related, None, marks)
   after_option (Some word) marks = after_word word marks
 
-  scope-refuses : (o : Option (List ℕ)) (marks : List Mark) (one : SyntaxKind) → MayHaveScope (MayHaveList WantsEnd) o marks one → after_option o marks ≡ Err one
+  scope-refuses : (o : Option (List ℕ)) (marks : List MarkedByte) (one : SyntaxKind) → MayHaveScope (MayHaveList WantsEnd) o marks one → after_option o marks ≡ Err one
   scope-refuses _ _ _ (MayHaveScope.without marks one fails) = listed-refuses (scope.Related, None, marks) one fails
   scope-refuses _ _ _ (MayHaveScope.scoped marks said one fails) =
       ap (λ o. listed_on (found {B = Scoped} o (scope.Related, Some (scope_word said), marks) (λ (one : Scope). type_behind one marks))) (scope-of (scope_word said) said refl)
@@ -225,29 +225,29 @@ module _ (text : List ℕ) where
       ap (λ o. listed_on (found {B = Scoped} o (scope.Related, Some word, marks) (λ (one : Scope). type_behind one marks))) (scope-none word never)
       ∙ listed-refuses (scope.Related, Some word, marks) one fails
 
-  scoped-through : (marks : List Mark) → listed_on (scoped_at marks) ≡ found {B = Answer QualifiedValue} (word_at marks) (listed_on (scope.Related, None, marks)) (λ (word : Two). after_word (read_as word.0) word.1)
+  scoped-through : (marks : List MarkedByte) → listed_on (scoped_at marks) ≡ found {B = Answer QualifiedValue} (word_at marks) (listed_on (scope.Related, None, marks)) (λ (word : Two). after_word (read_as word.0) word.1)
   unfolding scoped_at
   scoped-through marks =
       through listed_on (word_at marks) (scope.Related, None, marks) (λ (word : Two). found {B = Scoped} (scope_of (read_as word.0)) (scope.Related, Some (read_as word.0), word.1) (λ (one : Scope). type_behind one word.1))
 
-  scoped-wrong : (marks : List Mark) (one : SyntaxKind) → listed_on (scoped_at marks) ≡ Err one → MayHaveWord (MayHaveScope (MayHaveList WantsEnd)) marks one
+  scoped-wrong : (marks : List MarkedByte) (one : SyntaxKind) → listed_on (scoped_at marks) ≡ Err one → MayHaveWord (MayHaveScope (MayHaveList WantsEnd)) marks one
   scoped-wrong marks one h =
       may-wrong (listed_on (scope.Related, None, marks)) (λ (word : Two). after_word (read_as word.0) word.1) (MayHaveScope (MayHaveList WantsEnd)) marks
       (λ one h. MayHaveScope.without marks one (listed-wrong (scope.Related, None, marks) one h)) (λ word. scope-wrong (read_as word.0) word.1) one (sym (scoped-through marks) ∙ h)
 
-  scoped-refuses : (marks : List Mark) (one : SyntaxKind) → MayHaveWord (MayHaveScope (MayHaveList WantsEnd)) marks one → listed_on (scoped_at marks) ≡ Err one
+  scoped-refuses : (marks : List MarkedByte) (one : SyntaxKind) → MayHaveWord (MayHaveScope (MayHaveList WantsEnd)) marks one → listed_on (scoped_at marks) ≡ Err one
   scoped-refuses marks one h =
       scoped-through marks
       ∙ may-refuses (listed_on (scope.Related, None, marks)) (λ (word : Two). after_word (read_as word.0) word.1) (MayHaveScope (MayHaveList WantsEnd)) marks
       (λ one. scope-refuses None marks one) (λ word one. scope-refuses (Some (read_as word.0)) word.1 one) one h
 
-pub synonym-wrong : (marks : List Mark) (one : SyntaxKind) → read_synonym marks ≡ Err one → WantsQuoted (MayHaveWord (MayHaveScope (MayHaveList WantsEnd))) marks one
+pub synonym-wrong : (marks : List MarkedByte) (one : SyntaxKind) → read_synonym marks ≡ Err one → WantsQuoted (MayHaveWord (MayHaveScope (MayHaveList WantsEnd))) marks one
 unfolding read_synonym
 synonym-wrong marks one h =
     quoted-wrong (λ (text : Two). next (list_at (scoped_at text.1).2) (λ (list : Listed). ended list.1 (value.Synonym (read_as text.0) (scoped_at text.1).0 (scoped_at text.1).1 list.0))) (MayHaveWord (MayHaveScope (MayHaveList WantsEnd)))
     (λ text. scoped-wrong (read_as text.0) text.1) marks one h
 
-pub synonym-refuses : (marks : List Mark) (one : SyntaxKind) → WantsQuoted (MayHaveWord (MayHaveScope (MayHaveList WantsEnd))) marks one → read_synonym marks ≡ Err one
+pub synonym-refuses : (marks : List MarkedByte) (one : SyntaxKind) → WantsQuoted (MayHaveWord (MayHaveScope (MayHaveList WantsEnd))) marks one → read_synonym marks ≡ Err one
 unfolding read_synonym
 synonym-refuses marks one h =
     quoted-refuses (λ (text : Two). next (list_at (scoped_at text.1).2) (λ (list : Listed). ended list.1 (value.Synonym (read_as text.0) (scoped_at text.1).0 (scoped_at text.1).1 list.0))) (MayHaveWord (MayHaveScope (MayHaveList WantsEnd)))
@@ -256,74 +256,74 @@ synonym-refuses marks one h =
 -- ---- properties
 
 module _ (relation : List ℕ) (text : List ℕ) where
-  abbrev typed_on : Option (List Mark) × List Mark → Answer QualifiedValue
+  abbrev typed_on : Option (List MarkedByte) × List MarkedByte → Answer QualifiedValue
   typed_on more = ended more.1 (value.Literal relation text (datatype_of more.0))
 
-  typed-through : (marks : List Mark) → typed_on (may_have_word marks) ≡ found {B = Answer QualifiedValue} (word_at marks) (typed_on (None, marks)) (λ (word : Two). typed_on (Some word.0, word.1))
+  typed-through : (marks : List MarkedByte) → typed_on (may_have_word marks) ≡ found {B = Answer QualifiedValue} (word_at marks) (typed_on (None, marks)) (λ (word : Two). typed_on (Some word.0, word.1))
   typed-through marks = through typed_on (word_at marks) (None, marks) (λ (word : Two). (Some word.0, word.1))
 
-  typed-wrong : (marks : List Mark) (one : SyntaxKind) → typed_on (may_have_word marks) ≡ Err one → MayHaveWord (λ _. WantsEnd) marks one
+  typed-wrong : (marks : List MarkedByte) (one : SyntaxKind) → typed_on (may_have_word marks) ≡ Err one → MayHaveWord (λ _. WantsEnd) marks one
   typed-wrong marks one h =
       may-wrong (typed_on (None, marks)) (λ (word : Two). typed_on (Some word.0, word.1)) (λ _. WantsEnd) marks (ended-fails marks (value.Literal relation text (datatype_of None))) (λ word. ended-fails word.1 (value.Literal relation text (datatype_of (Some word.0)))) one (sym (typed-through marks) ∙ h)
 
-  typed-refuses : (marks : List Mark) (one : SyntaxKind) → MayHaveWord (λ _. WantsEnd) marks one → typed_on (may_have_word marks) ≡ Err one
+  typed-refuses : (marks : List MarkedByte) (one : SyntaxKind) → MayHaveWord (λ _. WantsEnd) marks one → typed_on (may_have_word marks) ≡ Err one
   typed-refuses marks one h =
       typed-through marks ∙ may-refuses (typed_on (None, marks)) (λ (word : Two). typed_on (Some word.0, word.1)) (λ _. WantsEnd) marks (ended-refuses marks (value.Literal relation text (datatype_of None))) (λ word. ended-refuses word.1 (value.Literal relation text (datatype_of (Some word.0)))) one h
 
-literal-wrong : (relation : List ℕ) (marks : List Mark) (one : SyntaxKind) → read_literal relation marks ≡ Err one → WantsQuoted (MayHaveWord (λ _. WantsEnd)) marks one
+literal-wrong : (relation : List ℕ) (marks : List MarkedByte) (one : SyntaxKind) → read_literal relation marks ≡ Err one → WantsQuoted (MayHaveWord (λ _. WantsEnd)) marks one
 unfolding read_literal
 literal-wrong relation marks one h =
     quoted-wrong (λ (text : Two). ended (may_have_word text.1).1 (value.Literal relation (read_as text.0) (datatype_of (may_have_word text.1).0))) (MayHaveWord (λ _. WantsEnd)) (λ text. typed-wrong relation (read_as text.0) text.1) marks one h
 
-literal-refuses : (relation : List ℕ) (marks : List Mark) (one : SyntaxKind) → WantsQuoted (MayHaveWord (λ _. WantsEnd)) marks one → read_literal relation marks ≡ Err one
+literal-refuses : (relation : List ℕ) (marks : List MarkedByte) (one : SyntaxKind) → WantsQuoted (MayHaveWord (λ _. WantsEnd)) marks one → read_literal relation marks ≡ Err one
 unfolding read_literal
 literal-refuses relation marks one h =
     quoted-refuses (λ (text : Two). ended (may_have_word text.1).1 (value.Literal relation (read_as text.0) (datatype_of (may_have_word text.1).0))) (MayHaveWord (λ _. WantsEnd)) (λ text. typed-refuses relation (read_as text.0) text.1) marks one h
 
-link-wrong : (relation : List ℕ) (marks : List Mark) (one : SyntaxKind) → read_link relation marks ≡ Err one → WantsWord (λ _. WantsEnd) marks one
+link-wrong : (relation : List ℕ) (marks : List MarkedByte) (one : SyntaxKind) → read_link relation marks ≡ Err one → WantsWord (λ _. WantsEnd) marks one
 unfolding read_link
 link-wrong relation marks one h =
     word-wrong (λ (target : Two). ended target.1 (value.Link relation (read_as target.0))) (λ _. WantsEnd) (λ target. ended-fails target.1 (value.Link relation (read_as target.0))) marks one h
 
-link-refuses : (relation : List ℕ) (marks : List Mark) (one : SyntaxKind) → WantsWord (λ _. WantsEnd) marks one → read_link relation marks ≡ Err one
+link-refuses : (relation : List ℕ) (marks : List MarkedByte) (one : SyntaxKind) → WantsWord (λ _. WantsEnd) marks one → read_link relation marks ≡ Err one
 unfolding read_link
 link-refuses relation marks one h =
     word-refuses (λ (target : Two). ended target.1 (value.Link relation (read_as target.0))) (λ _. WantsEnd) (λ target. ended-refuses target.1 (value.Link relation (read_as target.0))) marks one h
 
 abbrev object_on : Two → Answer QualifiedValue
-object_on word = found {B = Answer QualifiedValue} (behind_sign 34 (behind_blanks word.1)) (read_link (read_as word.0) word.1) (λ (_ : List Mark). read_literal (read_as word.0) word.1)
+object_on word = found {B = Answer QualifiedValue} (behind_sign 34 (behind_blanks word.1)) (read_link (read_as word.0) word.1) (λ (_ : List MarkedByte). read_literal (read_as word.0) word.1)
 
 object-wrong : (word : Two) (one : SyntaxKind) → object_on word ≡ Err one → WantsObject word.1 one
 object-wrong word one h = go (behind_sign 34 (behind_blanks word.1)) refl h
   where
-    go : (o : Option (List Mark)) → behind_sign 34 (behind_blanks word.1) ≡ o → found {B = Answer QualifiedValue} o (read_link (read_as word.0) word.1) (λ (_ : List Mark). read_literal (read_as word.0) word.1) ≡ Err one → WantsObject word.1 one
+    go : (o : Option (List MarkedByte)) → behind_sign 34 (behind_blanks word.1) ≡ o → found {B = Answer QualifiedValue} o (read_link (read_as word.0) word.1) (λ (_ : List MarkedByte). read_literal (read_as word.0) word.1) ≡ Err one → WantsObject word.1 one
     go None e h = WantsObject.word (behind_blanks word.1) one (blanks-at word.1) (quote_stops (behind_blanks word.1) e) (link-wrong (read_as word.0) word.1 one h)
     go (Some inside) e h = WantsObject.text inside one (subst (IsBehindBlanks word.1) (behind_sign-found 34 (behind_blanks word.1) inside e) (blanks-at word.1)) (literal-wrong (read_as word.0) word.1 one h)
 
 object-refuses : (word : Two) (one : SyntaxKind) → WantsObject word.1 one → object_on word ≡ Err one
 object-refuses word _ (WantsObject.text rest one at fails) =
-    ap (λ l. found {B = Answer QualifiedValue} (behind_sign 34 l) (read_link (read_as word.0) word.1) (λ (_ : List Mark). read_literal (read_as word.0) word.1)) (blanks-of word.1 (quote ∷ rest) at) ∙ literal-refuses (read_as word.0) word.1 one fails
+    ap (λ l. found {B = Answer QualifiedValue} (behind_sign 34 l) (read_link (read_as word.0) word.1) (λ (_ : List MarkedByte). read_literal (read_as word.0) word.1)) (blanks-of word.1 (quote ∷ rest) at) ∙ literal-refuses (read_as word.0) word.1 one fails
 object-refuses word _ (WantsObject.word rest one at stops fails) =
-    ap (λ l. found {B = Answer QualifiedValue} (behind_sign 34 l) (read_link (read_as word.0) word.1) (λ (_ : List Mark). read_literal (read_as word.0) word.1)) (blanks-of word.1 rest at)
-    ∙ (ap (λ o. found {B = Answer QualifiedValue} o (read_link (read_as word.0) word.1) (λ (_ : List Mark). read_literal (read_as word.0) word.1)) (no_quote rest stops) ∙ link-refuses (read_as word.0) word.1 one fails)
+    ap (λ l. found {B = Answer QualifiedValue} (behind_sign 34 l) (read_link (read_as word.0) word.1) (λ (_ : List MarkedByte). read_literal (read_as word.0) word.1)) (blanks-of word.1 rest at)
+    ∙ (ap (λ o. found {B = Answer QualifiedValue} o (read_link (read_as word.0) word.1) (λ (_ : List MarkedByte). read_literal (read_as word.0) word.1)) (no_quote rest stops) ∙ link-refuses (read_as word.0) word.1 one fails)
 
-pub property-wrong : (marks : List Mark) (one : SyntaxKind) → read_property marks ≡ Err one → WantsWord (λ _. WantsObject) marks one
+pub property-wrong : (marks : List MarkedByte) (one : SyntaxKind) → read_property marks ≡ Err one → WantsWord (λ _. WantsObject) marks one
 unfolding read_property
 property-wrong marks one h = word-wrong object_on (λ _. WantsObject) object-wrong marks one h
 
-pub property-refuses : (marks : List Mark) (one : SyntaxKind) → WantsWord (λ _. WantsObject) marks one → read_property marks ≡ Err one
+pub property-refuses : (marks : List MarkedByte) (one : SyntaxKind) → WantsWord (λ _. WantsObject) marks one → read_property marks ≡ Err one
 unfolding read_property
 property-refuses marks one h = word-refuses object_on (λ _. WantsObject) object-refuses marks one h
 
 -- ---- subsets and types of synonyms
 
-pub subset-wrong : (marks : List Mark) (one : SyntaxKind) → read_subset marks ≡ Err one → WantsWord (λ _. WantsQuoted WantsEnd) marks one
+pub subset-wrong : (marks : List MarkedByte) (one : SyntaxKind) → read_subset marks ≡ Err one → WantsWord (λ _. WantsQuoted WantsEnd) marks one
 unfolding read_subset
 subset-wrong marks one h =
     word-wrong (λ (word : Two). next (quoted_at word.1) (λ (text : Two). ended text.1 (value.SubsetDef (read_as word.0) (read_as text.0)))) (λ _. WantsQuoted WantsEnd)
     (λ word. quoted-wrong (λ (text : Two). ended text.1 (value.SubsetDef (read_as word.0) (read_as text.0))) WantsEnd (λ text. ended-fails text.1 (value.SubsetDef (read_as word.0) (read_as text.0))) word.1) marks one h
 
-pub subset-refuses : (marks : List Mark) (one : SyntaxKind) → WantsWord (λ _. WantsQuoted WantsEnd) marks one → read_subset marks ≡ Err one
+pub subset-refuses : (marks : List MarkedByte) (one : SyntaxKind) → WantsWord (λ _. WantsQuoted WantsEnd) marks one → read_subset marks ≡ Err one
 unfolding read_subset
 subset-refuses marks one h =
     word-refuses (λ (word : Two). next (quoted_at word.1) (λ (text : Two). ended text.1 (value.SubsetDef (read_as word.0) (read_as text.0)))) (λ _. WantsQuoted WantsEnd)
@@ -336,7 +336,7 @@ module _ (id text : List ℕ) where
   abbrev scope_on : Two → Answer QualifiedValue
   scope_on word = said_on (next {A = Scope} {B = TypeScope} (wanted syntax.Trailing (scope_of (read_as word.0))) (λ (one : Scope). Ok (Some one, word.1)))
 
-  said-through : (marks : List Mark) → said_on (type_scope_at marks) ≡ found {B = Answer QualifiedValue} (word_at marks) (ended marks (value.SynonymDef id text None)) scope_on
+  said-through : (marks : List MarkedByte) → said_on (type_scope_at marks) ≡ found {B = Answer QualifiedValue} (word_at marks) (ended marks (value.SynonymDef id text None)) scope_on
   unfolding type_scope_at
   said-through marks = through said_on (word_at marks) (Ok (None, marks)) (λ (word : Two). next {A = Scope} {B = TypeScope} (wanted syntax.Trailing (scope_of (read_as word.0))) (λ (one : Scope). Ok (Some one, word.1)))
 
@@ -348,32 +348,32 @@ module _ (id text : List ℕ) where
       go (Some said) e h =
           subst (λ w. MayBeScope (Some w) word.1 one) (sym (scope-is (read_as word.0) said e)) (MayBeScope.scoped word.1 said one (ended-fails word.1 (value.SynonymDef id text (Some said)) one h))
 
-  abbrev scope_after : Option (List ℕ) → List Mark → Answer QualifiedValue
+  abbrev scope_after : Option (List ℕ) → List MarkedByte → Answer QualifiedValue
   scope_after None marks = ended marks (value.SynonymDef id text None)
   scope_after (Some word) marks = said_on (next {A = Scope} {B = TypeScope} (wanted syntax.Trailing (scope_of word)) (λ (one : Scope). Ok (Some one, marks)))
 
-  type-refuses : (o : Option (List ℕ)) (marks : List Mark) (one : SyntaxKind) → MayBeScope o marks one → scope_after o marks ≡ Err one
+  type-refuses : (o : Option (List ℕ)) (marks : List MarkedByte) (one : SyntaxKind) → MayBeScope o marks one → scope_after o marks ≡ Err one
   type-refuses _ _ _ (MayBeScope.without marks one fails) = ended-refuses marks (value.SynonymDef id text None) one fails
   type-refuses _ _ _ (MayBeScope.scoped marks said one fails) =
       ap (λ o. said_on (next {A = Scope} {B = TypeScope} (wanted syntax.Trailing o) (λ (one : Scope). Ok (Some one, marks)))) (scope-of (scope_word said) said refl) ∙ ended-refuses marks (value.SynonymDef id text (Some said)) one fails
   type-refuses _ _ _ (MayBeScope.other word marks never) =
       ap (λ o. said_on (next {A = Scope} {B = TypeScope} (wanted syntax.Trailing o) (λ (one : Scope). Ok (Some one, marks)))) (scope-none word never)
 
-  said-wrong : (marks : List Mark) (one : SyntaxKind) → said_on (type_scope_at marks) ≡ Err one → MayHaveWord MayBeScope marks one
+  said-wrong : (marks : List MarkedByte) (one : SyntaxKind) → said_on (type_scope_at marks) ≡ Err one → MayHaveWord MayBeScope marks one
   said-wrong marks one h =
       may-wrong (ended marks (value.SynonymDef id text None)) scope_on MayBeScope marks (λ one h. MayBeScope.without marks one (ended-fails marks (value.SynonymDef id text None) one h)) type-wrong one (sym (said-through marks) ∙ h)
 
-  said-refuses : (marks : List Mark) (one : SyntaxKind) → MayHaveWord MayBeScope marks one → said_on (type_scope_at marks) ≡ Err one
+  said-refuses : (marks : List MarkedByte) (one : SyntaxKind) → MayHaveWord MayBeScope marks one → said_on (type_scope_at marks) ≡ Err one
   said-refuses marks one h =
       said-through marks ∙ may-refuses (ended marks (value.SynonymDef id text None)) scope_on MayBeScope marks (λ one. type-refuses None marks one) (λ word one. type-refuses (Some (read_as word.0)) word.1 one) one h
 
-pub synonym_type-wrong : (marks : List Mark) (one : SyntaxKind) → read_synonym_type marks ≡ Err one → WantsWord (λ _. WantsQuoted (MayHaveWord MayBeScope)) marks one
+pub synonym_type-wrong : (marks : List MarkedByte) (one : SyntaxKind) → read_synonym_type marks ≡ Err one → WantsWord (λ _. WantsQuoted (MayHaveWord MayBeScope)) marks one
 unfolding read_synonym_type
 synonym_type-wrong marks one h =
     word-wrong (λ (word : Two). next (quoted_at word.1) (λ (text : Two). next (type_scope_at text.1) (λ (said : TypeScope). ended said.1 (value.SynonymDef (read_as word.0) (read_as text.0) said.0)))) (λ _. WantsQuoted (MayHaveWord MayBeScope))
     (λ word. quoted-wrong (λ (text : Two). next (type_scope_at text.1) (λ (said : TypeScope). ended said.1 (value.SynonymDef (read_as word.0) (read_as text.0) said.0))) (MayHaveWord MayBeScope) (λ text. said-wrong (read_as word.0) (read_as text.0) text.1) word.1) marks one h
 
-pub synonym_type-refuses : (marks : List Mark) (one : SyntaxKind) → WantsWord (λ _. WantsQuoted (MayHaveWord MayBeScope)) marks one → read_synonym_type marks ≡ Err one
+pub synonym_type-refuses : (marks : List MarkedByte) (one : SyntaxKind) → WantsWord (λ _. WantsQuoted (MayHaveWord MayBeScope)) marks one → read_synonym_type marks ≡ Err one
 unfolding read_synonym_type
 synonym_type-refuses marks one h =
     word-refuses (λ (word : Two). next (quoted_at word.1) (λ (text : Two). next (type_scope_at text.1) (λ (said : TypeScope). ended said.1 (value.SynonymDef (read_as word.0) (read_as text.0) said.0)))) (λ _. WantsQuoted (MayHaveWord MayBeScope))

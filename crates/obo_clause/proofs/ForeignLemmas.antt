@@ -6,7 +6,7 @@ use Rattle.obo_tags.specs.declared.kind.ValueShape.TheVariants.{Raw}
 use Rattle.obo_clause.specs.declared.clause.Clause.{Clause}
 use Rattle.obo_clause.specs.declared.clause.Qualifier.{Qualifier}
 use Rattle.obo_clause.specs.declared.clause.Value.{Value}
-use Rattle.obo_clause.specs.declared.mark.Mark.{Mark}
+use Rattle.obo_clause.specs.declared.mark.MarkedByte.{MarkedByte}
 use Rattle.obo_clause.specs.Foreign.{is_foreign, is_raw}
 use Rattle.obo_clause.specs.Spelled.{IsSpelledAs}
 use Rattle.obo_clause.specs.Spelling.{IsQualifiedValue, IsValue, shape_at}
@@ -16,7 +16,7 @@ abbrev is_raw_shape : ValueShape → Bool
 is_raw_shape Raw = true
 is_raw_shape _ = false
 
-shaped_value : (behind : List Mark) (shape : ValueShape) (marks : List Mark) (one : Value) → IsValue behind shape marks one → is_raw one ≡ is_raw_shape shape
+shaped_value : (behind : List MarkedByte) (shape : ValueShape) (marks : List MarkedByte) (one : Value) → IsValue behind shape marks one → is_raw one ≡ is_raw_shape shape
 shaped_value behind _ _ _ (spelling.IsValue.text _ _ _) = refl
 shaped_value behind _ _ _ (spelling.IsValue.id _ _ _) = refl
 shaped_value behind _ _ _ (spelling.IsValue.pair _ _ _ _ _ _ _ _ _) = refl

@@ -2,32 +2,32 @@
 use Rattle.std.proofs.Common.{◌≡◌, ℕ, ◌+◌, ◌-◌, ◌<◌, ◌≤◌, Bool, true, false, List, [], ◌∷◌, ◌++◌, Some, length, get_or, take, drop, refl, sym, ap, ◌∙◌, arith, add-one, drop-cons, length-drop}
 use Rattle.std.proofs.lemmas.List.{append_assoc, append-nil, drop_all, take_more}
 use Rattle.std.proofs.Math.Seq.{take-length}
-use Rattle.obo_clause.specs.Marks.{Mark, bare}
+use Rattle.obo_clause.specs.Marks.{MarkedByte, bare}
 use Rattle.obo_clause.specs.Reading.{ending_at, free_run, stops_run}
 
 -- what `&marks[k..]` gives
-pub slice-rest : (marks : List Mark) (k : ℕ) → take (length marks - k) (drop k marks) ≡ drop k marks
+pub slice-rest : (marks : List MarkedByte) (k : ℕ) → take (length marks - k) (drop k marks) ≡ drop k marks
 slice-rest marks k = rw (sym (length-drop k marks)) (take-length (drop k marks))
 
-pub free_run-stops : (at_quote : Bool) (marks : List Mark) → stops_run at_quote marks ≡ true → free_run at_quote marks ≡ ([], marks)
+pub free_run-stops : (at_quote : Bool) (marks : List MarkedByte) → stops_run at_quote marks ≡ true → free_run at_quote marks ≡ ([], marks)
 unfolding free_run
 free_run-stops at_quote [] stops = refl
 free_run-stops at_quote (mark ∷ marks) stops = rw stops refl
 
-pub free_run-goes : (at_quote : Bool) (mark : Mark) (marks : List Mark) → stops_run at_quote (mark ∷ marks) ≡ false → free_run at_quote (mark ∷ marks) ≡ (mark ∷ (free_run at_quote marks).0, (free_run at_quote marks).1)
+pub free_run-goes : (at_quote : Bool) (mark : MarkedByte) (marks : List MarkedByte) → stops_run at_quote (mark ∷ marks) ≡ false → free_run at_quote (mark ∷ marks) ≡ (mark ∷ (free_run at_quote marks).0, (free_run at_quote marks).1)
 unfolding free_run
 free_run-goes at_quote mark marks goes = rw goes refl
 
 -- the run goes on up to here, and from here on as the run of the rest does
-pub record RunsFree (at_quote : Bool) (marks : List Mark) (place : ℕ) : Type 0 where
+pub record RunsFree (at_quote : Bool) (marks : List MarkedByte) (place : ℕ) : Type 0 where
   pub within : place ≤ length marks
   pub run : take place marks ++ (free_run at_quote (drop place marks)).0 ≡ (free_run at_quote marks).0
   pub rest : (free_run at_quote (drop place marks)).1 ≡ (free_run at_quote marks).1
 
-pub free-begin : (at_quote : Bool) (marks : List Mark) → RunsFree at_quote marks 0
+pub free-begin : (at_quote : Bool) (marks : List MarkedByte) → RunsFree at_quote marks 0
 free-begin at_quote marks = record { within = omega arith; run = refl; rest = refl }
 
-module _ (at_quote : Bool) (marks : List Mark) (place : ℕ) where
+module _ (at_quote : Bool) (marks : List MarkedByte) (place : ℕ) where
   pub free-stop : RunsFree at_quote marks place → stops_run at_quote (drop place marks) ≡ true → (take place marks, drop place marks) ≡ free_run at_quote marks
   free-stop runs stops =
       let e = free_run-stops at_quote (drop place marks) stops in

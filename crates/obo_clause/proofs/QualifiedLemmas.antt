@@ -12,7 +12,7 @@ use Rattle.obo_clause.specs.declared.line.SyntaxKind.{SyntaxKind}
 use Rattle.obo_clause.specs.declared.clause.QualifiedValue.{QualifiedValue}
 use Rattle.obo_clause.specs.Faults.{ValueFails}
 use Rattle.obo_clause.specs.Grammar.{IsTrimmed}
-use Rattle.obo_clause.specs.Marks.{Mark, marks_of}
+use Rattle.obo_clause.specs.Marks.{MarkedByte, marks_of}
 use Rattle.obo_clause.specs.Reading.{behind, front, trim}
 use Rattle.obo_clause.specs.ReadingLines.{qualified_value, read_raw, read_shape}
 use Rattle.obo_clause.specs.Spelling.{IsQualifiedValue, IsValue}
@@ -71,7 +71,7 @@ qualified_value-found shapes.SynonymDef bytes one h = shaped-found shapes.Synony
 qualified_value-found shapes.Raw bytes one h = raw-found bytes one h
 
 -- a value has a shape that is read by its marks
-by-marks : (behind : List Mark) (shape : ValueShape) (marks : List Mark) (one : Value) (bytes : List ℕ) → IsValue behind shape marks one → read_shape shape bytes ≡ read_marks shape (marks_of bytes)
+by-marks : (behind : List MarkedByte) (shape : ValueShape) (marks : List MarkedByte) (one : Value) (bytes : List ℕ) → IsValue behind shape marks one → read_shape shape bytes ≡ read_marks shape (marks_of bytes)
 by-marks behind _ _ _ bytes (IsValue.text marks text is) = refl
 by-marks behind _ _ _ bytes (IsValue.id marks word is) = refl
 by-marks behind _ _ _ bytes (IsValue.pair marks blanks others first second one some spaces two) = refl

@@ -13,7 +13,7 @@ use Rattle.obo_clause.specs.declared.line.SyntaxKind.TheVariants as syntax
 use Rattle.obo_clause.specs.declared.clause.QualifiedValue.{QualifiedValue}
 use Rattle.obo_clause.specs.Faults.{IsBehindBlanks, Stops, WantsEnd}
 use Rattle.obo_clause.specs.Grammar.{AreBlanks, IsEnding}
-use Rattle.obo_clause.specs.Marks.{Mark}
+use Rattle.obo_clause.specs.Marks.{MarkedByte}
 use Rattle.obo_clause.specs.Reading.{Answer, behind_blanks, end_at, ending_at, next, wanted, word_at}
 use Rattle.obo_clause.specs.ReadingLines.{qualified_value, ended, scope_of, truth_of, want_word}
 use Rattle.obo_clause.specs.Spelling.{IsNoScope, bool_word, scope_word}
@@ -54,15 +54,15 @@ not-on answer go_on one e = ap (λ a. next a go_on) e
 -- ---- endings behind a value
 
 -- blanks and an ending, behind this value
-pub record Tail (rest : List Mark) (value : Value) (one : QualifiedValue) : Type 0 where
-  pub between : List Mark
-  pub ending : List Mark
+pub record Tail (rest : List MarkedByte) (value : Value) (one : QualifiedValue) : Type 0 where
+  pub between : List MarkedByte
+  pub ending : List MarkedByte
   pub whole : rest ≡ between ++ ending
   pub blank : AreBlanks between
   pub is : IsEnding ending one.qualifiers
   pub same : value ≡ one.value
 
-tail-step : (rest : List Mark) (value : Value) (one : QualifiedValue) (o : Option (List Qualifier)) → ending_at (behind_blanks rest) ≡ o → next {B = QualifiedValue} (wanted syntax.Trailing o) (λ (qualifiers : List Qualifier). Ok (qualified_value value qualifiers)) ≡ Ok one → Tail rest value one
+tail-step : (rest : List MarkedByte) (value : Value) (one : QualifiedValue) (o : Option (List Qualifier)) → ending_at (behind_blanks rest) ≡ o → next {B = QualifiedValue} (wanted syntax.Trailing o) (λ (qualifiers : List Qualifier). Ok (qualified_value value qualifiers)) ≡ Ok one → Tail rest value one
 tail-step rest value one None e h = cc
 tail-step rest value one (Some qualifiers) e h =
     let same = same-ok (qualified_value value qualifiers) one h in
@@ -76,51 +76,51 @@ tail-step rest value one (Some qualifiers) e h =
       same = ap (λ (c : QualifiedValue). c.value) same;
     }
 
-pub ended-ok : (rest : List Mark) (value : Value) (one : QualifiedValue) → ended rest value ≡ Ok one → Tail rest value one
+pub ended-ok : (rest : List MarkedByte) (value : Value) (one : QualifiedValue) → ended rest value ≡ Ok one → Tail rest value one
 unfolding end_at
 ended-ok rest value one h = tail-step rest value one (ending_at (behind_blanks rest)) refl h
 
-pub end-finds : (between ending : List Mark) (qualifiers : List Qualifier) → AreBlanks between → IsEnding ending qualifiers → ending_at (behind_blanks (between ++ ending)) ≡ Some qualifiers
+pub end-finds : (between ending : List MarkedByte) (qualifiers : List Qualifier) → AreBlanks between → IsEnding ending qualifiers → ending_at (behind_blanks (between ++ ending)) ≡ Some qualifiers
 end-finds between ending qualifiers blank is =
     ap ending_at (blanks-behind between ending blank (ending-begins is_space ending qualifiers is refl refl)) ∙ ending-finds ending qualifiers is
 
-pub ended-finds : (between ending : List Mark) (qualifiers : List Qualifier) (value : Value) → AreBlanks between → IsEnding ending qualifiers → ended (between ++ ending) value ≡ Ok (qualified_value value qualifiers)
+pub ended-finds : (between ending : List MarkedByte) (qualifiers : List Qualifier) (value : Value) → AreBlanks between → IsEnding ending qualifiers → ended (between ++ ending) value ≡ Ok (qualified_value value qualifiers)
 unfolding end_at
 ended-finds between ending qualifiers value blank is =
     ap (λ o. next {B = QualifiedValue} (wanted syntax.Trailing o) (λ (qualifiers : List Qualifier). Ok (qualified_value value qualifiers))) (end-finds between ending qualifiers blank is)
 
-end-wrong : (rest : List Mark) (value : Value) (one : SyntaxKind) (o : Option (List Qualifier)) → ending_at (behind_blanks rest) ≡ o → next {B = QualifiedValue} (wanted syntax.Trailing o) (λ (qualifiers : List Qualifier). Ok (qualified_value value qualifiers)) ≡ Err one → WantsEnd rest one
+end-wrong : (rest : List MarkedByte) (value : Value) (one : SyntaxKind) (o : Option (List Qualifier)) → ending_at (behind_blanks rest) ≡ o → next {B = QualifiedValue} (wanted syntax.Trailing o) (λ (qualifiers : List Qualifier). Ok (qualified_value value qualifiers)) ≡ Err one → WantsEnd rest one
 end-wrong rest value one (Some qualifiers) e h = cc
 end-wrong rest value one None e h =
     let same : syntax.Trailing ≡ one = cc in
     subst (WantsEnd rest) same (WantsEnd.trailing (behind_blanks rest) (blanks-at rest) (λ qualifiers. no-ending (behind_blanks rest) qualifiers e))
 
-pub ended-fails : (rest : List Mark) (value : Value) (one : SyntaxKind) → ended rest value ≡ Err one → WantsEnd rest one
+pub ended-fails : (rest : List MarkedByte) (value : Value) (one : SyntaxKind) → ended rest value ≡ Err one → WantsEnd rest one
 unfolding end_at
 ended-fails rest value one h = end-wrong rest value one (ending_at (behind_blanks rest)) refl h
 
-none-there : (marks : List Mark) (o : Option (List Qualifier)) → ending_at marks ≡ o → ((qualifiers : List Qualifier) → ¬ IsEnding marks qualifiers) → o ≡ None
+none-there : (marks : List MarkedByte) (o : Option (List Qualifier)) → ending_at marks ≡ o → ((qualifiers : List Qualifier) → ¬ IsEnding marks qualifiers) → o ≡ None
 none-there marks None e never = refl
 none-there marks (Some qualifiers) e never = absurd (never qualifiers (ending-found marks qualifiers e))
 
-pub ended-refuses : (rest : List Mark) (value : Value) (one : SyntaxKind) → WantsEnd rest one → ended rest value ≡ Err one
+pub ended-refuses : (rest : List MarkedByte) (value : Value) (one : SyntaxKind) → WantsEnd rest one → ended rest value ≡ Err one
 unfolding end_at
 ended-refuses rest value _ (WantsEnd.trailing left at never) =
     ap (λ l. next {B = QualifiedValue} (wanted syntax.Trailing (ending_at l)) (λ (qualifiers : List Qualifier). Ok (qualified_value value qualifiers))) (blanks-of rest left at)
     ∙ ap (λ o. next {B = QualifiedValue} (wanted syntax.Trailing o) (λ (qualifiers : List Qualifier). Ok (qualified_value value qualifiers))) (none-there left (ending_at left) refl never)
 
 -- what an ending stops, it stops behind blanks
-pub tail-stops : (test : Mark → Bool) → ((mark : Mark) → is_space mark ≡ true → test mark ≡ false) → (between ending : List Mark) (qualifiers : List Qualifier) → AreBlanks between → IsEnding ending qualifiers → test exclamation ≡ false → test block_open ≡ false → Stops test (between ++ ending)
+pub tail-stops : (test : MarkedByte → Bool) → ((mark : MarkedByte) → is_space mark ≡ true → test mark ≡ false) → (between ending : List MarkedByte) (qualifiers : List Qualifier) → AreBlanks between → IsEnding ending qualifiers → test exclamation ≡ false → test block_open ≡ false → Stops test (between ++ ending)
 tail-stops test spaces [] ending qualifiers blank is one two = ending-begins test ending qualifiers is one two
 tail-stops test spaces (x ∷ between) ending qualifiers blank is one two = spaces x (pass-head is_space x between blank)
 
-pub tail-stops_word : (between ending : List Mark) (qualifiers : List Qualifier) → AreBlanks between → IsEnding ending qualifiers → Stops is_word_mark (between ++ ending)
+pub tail-stops_word : (between ending : List MarkedByte) (qualifiers : List Qualifier) → AreBlanks between → IsEnding ending qualifiers → Stops is_word_mark (between ++ ending)
 tail-stops_word between ending qualifiers blank is = tail-stops is_word_mark space-not_word between ending qualifiers blank is refl refl
 
-pub tail-at : (between ending : List Mark) (qualifiers : List Qualifier) → AreBlanks between → IsEnding ending qualifiers → IsBehindBlanks (between ++ ending) ending
+pub tail-at : (between ending : List MarkedByte) (qualifiers : List Qualifier) → AreBlanks between → IsEnding ending qualifiers → IsBehindBlanks (between ++ ending) ending
 tail-at between ending qualifiers blank is = record { blanks = between; whole = refl; blank = blank; stops = ending-begins is_space ending qualifiers is refl refl }
 
-pub tail-no_word : (between ending : List Mark) (qualifiers : List Qualifier) → AreBlanks between → IsEnding ending qualifiers → word_at (between ++ ending) ≡ None
+pub tail-no_word : (between ending : List MarkedByte) (qualifiers : List Qualifier) → AreBlanks between → IsEnding ending qualifiers → word_at (between ++ ending) ≡ None
 tail-no_word between ending qualifiers blank is =
     word-none (between ++ ending) (record { rest = ending; behind = tail-at between ending qualifiers blank is; stops = ending-begins is_word_mark ending qualifiers is refl refl })
 
@@ -181,17 +181,17 @@ scope-none word never = go (scope_of word) refl
 
 -- ---- wanted words
 
-pub want-found : (marks : List Mark) (word : Two) → want_word marks ≡ Ok word → HasRun marks word.0 word.1
+pub want-found : (marks : List MarkedByte) (word : Two) → want_word marks ≡ Ok word → HasRun marks word.0 word.1
 want-found marks word h = word-found marks word.0 word.1 (wanted-found syntax.NoValue (word_at marks) word h)
 
-pub want-finds : (marks run rest : List Mark) → HasRun marks run rest → want_word marks ≡ Ok (run, rest)
+pub want-finds : (marks run rest : List MarkedByte) → HasRun marks run rest → want_word marks ≡ Ok (run, rest)
 want-finds marks run rest has = ap (wanted syntax.NoValue) (word-finds marks run rest has)
 
 -- a second word has blanks before it
-pub spaced : (marks run rest second more : List Mark) → HasRun marks run rest → (has : HasRun rest second more) → 0 < length has.blanks
+pub spaced : (marks run rest second more : List MarkedByte) → HasRun marks run rest → (has : HasRun rest second more) → 0 < length has.blanks
 spaced marks run rest second more first has = go has.blanks second (subst (Stops is_word_mark) has.whole first.stops) has.some has.each
   where
-    go : (blanks second : List Mark) → Stops is_word_mark (blanks ++ (second ++ more)) → 0 < length second → AllPass is_word_mark second → 0 < length blanks
+    go : (blanks second : List MarkedByte) → Stops is_word_mark (blanks ++ (second ++ more)) → 0 < length second → AllPass is_word_mark second → 0 < length blanks
     go (x ∷ blanks) second stops some each = omega arith
     go [] [] stops some each = absurd (omega arith)
     go [] (x ∷ second) stops some each = absurd (false≢true (sym stops ∙ pass-head is_word_mark x second each))

@@ -14,7 +14,7 @@ use Rattle.obo_clause.specs.declared.line.SyntaxKind.TheVariants as syntax
 use Rattle.obo_clause.specs.declared.clause.QualifiedValue.{QualifiedValue}
 use Rattle.obo_clause.specs.Faults.{Stops}
 use Rattle.obo_clause.specs.Grammar.{AreBlanks, IsEnding, IsFree}
-use Rattle.obo_clause.specs.Marks.{Mark, read_as}
+use Rattle.obo_clause.specs.Marks.{MarkedByte, read_as}
 use Rattle.obo_clause.specs.Reading.{Answer, behind_blanks, behind_sign, ending_at, found, free_run, list_at, next, quoted_at, trim_end, wanted, word_at}
 use Rattle.obo_clause.specs.ReadingLines.{Scoped, qualified_value, datatype_of, ended, labelled, may_have_word, read_bool, read_definition, read_id, read_id_or_pair, read_link, read_literal, read_pair, read_property, read_subset, read_synonym, read_synonym_type, read_text, read_xref, scope_of, scoped_at, truth_of, type_behind, type_scope_at, want_truth, want_word, xref}
 use Rattle.obo_clause.specs.Spelling.{IsMoreList, IsMoreWord, IsScoped, IsSecondWord, IsTypeScope, IsValue, scope_word, text_datatype}
@@ -28,18 +28,18 @@ use Rattle.obo_clause.proofs.TailLemmas.{Tail, ended-ok, scope-is, scope-missing
 use Rattle.obo_clause.proofs.WordLemmas.{HasQuoted, HasRun, Two, quoted-found, quoted-is, quoted_marks, run-word, same-ok, wanted-found, word-found}
 
 -- blanks, a value, blanks and an ending
-pub record Reads (shape : ValueShape) (marks : List Mark) (one : QualifiedValue) : Type 0 where
-  pub before : List Mark
-  pub marks_read : List Mark
-  pub between : List Mark
-  pub ending : List Mark
+pub record Reads (shape : ValueShape) (marks : List MarkedByte) (one : QualifiedValue) : Type 0 where
+  pub before : List MarkedByte
+  pub marks_read : List MarkedByte
+  pub between : List MarkedByte
+  pub ending : List MarkedByte
   pub whole : marks ≡ before ++ (marks_read ++ (between ++ ending))
   pub blank_before : AreBlanks before
   pub is : IsValue (between ++ ending) shape marks_read one.value
   pub blank_between : AreBlanks between
   pub ended : IsEnding ending one.qualifiers
 
-reads-of : (shape : ValueShape) (marks before part rest : List Mark) (read : Value) (one : QualifiedValue) → marks ≡ before ++ (part ++ rest) → AreBlanks before → ((behind : List Mark) → IsValue behind shape part read) → Tail rest read one → Reads shape marks one
+reads-of : (shape : ValueShape) (marks before part rest : List MarkedByte) (read : Value) (one : QualifiedValue) → marks ≡ before ++ (part ++ rest) → AreBlanks before → ((behind : List MarkedByte) → IsValue behind shape part read) → Tail rest read one → Reads shape marks one
 reads-of shape marks before part rest read one whole blank is tail = record {
   before = before;
   marks_read = part;
@@ -54,17 +54,17 @@ reads-of shape marks before part rest read one whole blank is tail = record {
 
 -- ---- words
 
-pub id-reads : (marks : List Mark) (one : QualifiedValue) → read_id marks ≡ Ok one → Reads shapes.Id marks one
+pub id-reads : (marks : List MarkedByte) (one : QualifiedValue) → read_id marks ≡ Ok one → Reads shapes.Id marks one
 unfolding read_id
 id-reads marks one h =
     let n = went-on (want_word marks) (λ (word : Two). ended word.1 (value.Id (read_as word.0))) one h in
     let has = want-found marks n.got n.found in
     reads-of shapes.Id marks has.blanks n.got.0 n.got.1 (value.Id (read_as n.got.0)) one has.whole has.blank (λ behind. IsValue.id n.got.0 (read_as n.got.0) (run-word marks n.got.0 n.got.1 has)) (ended-ok n.got.1 (value.Id (read_as n.got.0)) one n.on)
 
-two-words : (marks run rest second more : List Mark) → (first : HasRun marks run rest) (has : HasRun rest second more) → marks ≡ first.blanks ++ ((run ++ has.blanks ++ second) ++ more)
+two-words : (marks run rest second more : List MarkedByte) → (first : HasRun marks run rest) (has : HasRun rest second more) → marks ≡ first.blanks ++ ((run ++ has.blanks ++ second) ++ more)
 two-words marks run rest second more first has = first.whole ∙ (ap (λ l. first.blanks ++ (run ++ l)) has.whole ∙ simp append_assoc)
 
-pub pair-reads : (marks : List Mark) (one : QualifiedValue) → read_pair marks ≡ Ok one → Reads shapes.Pair marks one
+pub pair-reads : (marks : List MarkedByte) (one : QualifiedValue) → read_pair marks ≡ Ok one → Reads shapes.Pair marks one
 unfolding read_pair
 pair-reads marks one h =
     let n = went-on (want_word marks) (λ (word : Two). next (want_word word.1) (λ (second : Two). ended second.1 (value.Pair (read_as word.0) (read_as second.0)))) one h in
@@ -75,7 +75,7 @@ pair-reads marks one h =
     (λ behind. IsValue.pair n.got.0 has.blanks m.got.0 (read_as n.got.0) (read_as m.got.0) (run-word marks n.got.0 n.got.1 first) (spaced marks n.got.0 n.got.1 m.got.0 m.got.1 first has) has.blank (run-word n.got.1 m.got.0 m.got.1 has))
     (ended-ok m.got.1 (value.Pair (read_as n.got.0) (read_as m.got.0)) one m.on)
 
-one-or-two : (marks : List Mark) (word : Two) (one : QualifiedValue) (o : Option Two) → word_at word.1 ≡ o → HasRun marks word.0 word.1 → found {B = Answer QualifiedValue} o (ended word.1 (value.Id (read_as word.0))) (λ (second : Two). ended second.1 (value.Pair (read_as word.0) (read_as second.0))) ≡ Ok one → Reads shapes.IdOrPair marks one
+one-or-two : (marks : List MarkedByte) (word : Two) (one : QualifiedValue) (o : Option Two) → word_at word.1 ≡ o → HasRun marks word.0 word.1 → found {B = Answer QualifiedValue} o (ended word.1 (value.Id (read_as word.0))) (λ (second : Two). ended second.1 (value.Pair (read_as word.0) (read_as second.0))) ≡ Ok one → Reads shapes.IdOrPair marks one
 one-or-two marks word one None e first h =
     reads-of shapes.IdOrPair marks first.blanks word.0 word.1 (value.Id (read_as word.0)) one first.whole first.blank (λ behind. IsValue.class word.0 (read_as word.0) (run-word marks word.0 word.1 first)) (ended-ok word.1 (value.Id (read_as word.0)) one h)
 one-or-two marks word one (Some second) e first h =
@@ -84,13 +84,13 @@ one-or-two marks word one (Some second) e first h =
     (λ behind. IsValue.restriction word.0 has.blanks second.0 (read_as word.0) (read_as second.0) (run-word marks word.0 word.1 first) (spaced marks word.0 word.1 second.0 second.1 first has) has.blank (run-word word.1 second.0 second.1 has))
     (ended-ok second.1 (value.Pair (read_as word.0) (read_as second.0)) one h)
 
-pub id_or_pair-reads : (marks : List Mark) (one : QualifiedValue) → read_id_or_pair marks ≡ Ok one → Reads shapes.IdOrPair marks one
+pub id_or_pair-reads : (marks : List MarkedByte) (one : QualifiedValue) → read_id_or_pair marks ≡ Ok one → Reads shapes.IdOrPair marks one
 unfolding read_id_or_pair
 id_or_pair-reads marks one h =
     let n = went-on (want_word marks) (λ (word : Two). found {B = Answer QualifiedValue} (word_at word.1) (ended word.1 (value.Id (read_as word.0))) (λ (second : Two). ended second.1 (value.Pair (read_as word.0) (read_as second.0)))) one h in
     one-or-two marks n.got one (word_at n.got.1) refl (want-found marks n.got n.found) n.on
 
-pub bool-reads : (marks : List Mark) (one : QualifiedValue) → read_bool marks ≡ Ok one → Reads shapes.Bool marks one
+pub bool-reads : (marks : List MarkedByte) (one : QualifiedValue) → read_bool marks ≡ Ok one → Reads shapes.Bool marks one
 unfolding read_bool
 bool-reads marks one h =
     let n = went-on (want_word marks) (λ (word : Two). next (want_truth (read_as word.0)) (λ (truth : Bool). ended word.1 (value.Bool truth))) one h in
@@ -102,12 +102,12 @@ bool-reads marks one h =
 -- ---- quoted texts and lists
 
 -- a list, or nothing, and the rest
-record MoreList (marks : List Mark) (listed : Listed) : Type 0 where
-  part : List Mark
+record MoreList (marks : List MarkedByte) (listed : Listed) : Type 0 where
+  part : List MarkedByte
   whole : marks ≡ part ++ listed.1
   is : IsMoreList part listed.0
 
-more-list : (marks : List Mark) (listed : Listed) → ListForm marks listed → MoreList marks listed
+more-list : (marks : List MarkedByte) (listed : Listed) → ListForm marks listed → MoreList marks listed
 more-list marks _ (ListForm.without stops) = record { part = []; whole = refl; is = IsMoreList.nothing }
 more-list marks _ (ListForm.list blanks inside rest xrefs whole blank are) = record {
   part = blanks ++ (list_open ∷ (inside ++ list_close ∷ []));
@@ -115,11 +115,11 @@ more-list marks _ (ListForm.list blanks inside rest xrefs whole blank are) = rec
   is = IsMoreList.list blanks (list_open ∷ (inside ++ list_close ∷ [])) xrefs blank (record { inside = inside; whole = refl; slots = are });
 }
 
-quoted-more : (marks inside rest part more : List Mark) → (has : HasQuoted marks inside rest) → rest ≡ part ++ more → marks ≡ has.blanks ++ ((quoted_marks inside ++ part) ++ more)
+quoted-more : (marks inside rest part more : List MarkedByte) → (has : HasQuoted marks inside rest) → rest ≡ part ++ more → marks ≡ has.blanks ++ ((quoted_marks inside ++ part) ++ more)
 quoted-more marks inside rest part more has e =
     has.whole ∙ (ap (λ l. has.blanks ++ (quote ∷ (inside ++ quote ∷ l))) e ∙ simp append_assoc)
 
-pub definition-reads : (marks : List Mark) (one : QualifiedValue) → read_definition marks ≡ Ok one → Reads shapes.Def marks one
+pub definition-reads : (marks : List MarkedByte) (one : QualifiedValue) → read_definition marks ≡ Ok one → Reads shapes.Def marks one
 unfolding read_definition
 definition-reads marks one h =
     let n = went-on (quoted_at marks) (λ (text : Two). next (list_at text.1) (λ (list : Listed). ended list.1 (value.Def (read_as text.0) list.0))) one h in
@@ -131,12 +131,12 @@ definition-reads marks one h =
     (ended-ok m.got.1 (value.Def (read_as n.got.0) m.got.0) one m.on)
 
 -- a scope and a type, and the rest
-record ScopedRead (marks : List Mark) (scoped : Scoped) : Type 0 where
-  part : List Mark
+record ScopedRead (marks : List MarkedByte) (scoped : Scoped) : Type 0 where
+  part : List MarkedByte
   whole : marks ≡ part ++ scoped.2
   is : IsScoped part scoped.0 scoped.1
 
-type-step : (marks run rest : List Mark) (one : Scope) (o : Option Two) → word_at rest ≡ o → (has : HasRun marks run rest) → read_as run ≡ scope_word one → ScopedRead marks (found {B = Scoped} o (one, None, rest) (λ (type : Two). (one, Some (read_as type.0), type.1)))
+type-step : (marks run rest : List MarkedByte) (one : Scope) (o : Option Two) → word_at rest ≡ o → (has : HasRun marks run rest) → read_as run ≡ scope_word one → ScopedRead marks (found {B = Scoped} o (one, None, rest) (λ (type : Two). (one, Some (read_as type.0), type.1)))
 type-step marks run rest one None e has is = record {
   part = has.blanks ++ run ++ [];
   whole = has.whole ∙ simp (append_assoc, append-nil);
@@ -151,7 +151,7 @@ type-step marks run rest one (Some type) e has is =
           (IsSecondWord.word second.blanks type.0 (read_as type.0) (spaced marks run rest type.0 type.1 has second) second.blank (run-word rest type.0 type.1 second));
     }
 
-scope-read : (marks : List Mark) (word : Two) (o : Option Scope) → scope_of (read_as word.0) ≡ o → HasRun marks word.0 word.1 → ScopedRead marks (found {B = Scoped} o (scope.Related, Some (read_as word.0), word.1) (λ (one : Scope). type_behind one word.1))
+scope-read : (marks : List MarkedByte) (word : Two) (o : Option Scope) → scope_of (read_as word.0) ≡ o → HasRun marks word.0 word.1 → ScopedRead marks (found {B = Scoped} o (scope.Related, Some (read_as word.0), word.1) (λ (one : Scope). type_behind one word.1))
 scope-read marks word None e has = record {
   part = has.blanks ++ word.0;
   whole = has.whole ∙ simp append_assoc;
@@ -160,15 +160,15 @@ scope-read marks word None e has = record {
 scope-read marks word (Some one) e has =
     type-step marks word.0 word.1 one (word_at word.1) refl has (scope-is (read_as word.0) one e)
 
-scoped-step : (marks : List Mark) (o : Option Two) → word_at marks ≡ o → ScopedRead marks (found {B = Scoped} o (scope.Related, None, marks) (λ (word : Two). found {B = Scoped} (scope_of (read_as word.0)) (scope.Related, Some (read_as word.0), word.1) (λ (one : Scope). type_behind one word.1)))
+scoped-step : (marks : List MarkedByte) (o : Option Two) → word_at marks ≡ o → ScopedRead marks (found {B = Scoped} o (scope.Related, None, marks) (λ (word : Two). found {B = Scoped} (scope_of (read_as word.0)) (scope.Related, Some (read_as word.0), word.1) (λ (one : Scope). type_behind one word.1)))
 scoped-step marks None e = record { part = []; whole = refl; is = IsScoped.nothing }
 scoped-step marks (Some word) e = scope-read marks word (scope_of (read_as word.0)) refl (word-found marks word.0 word.1 e)
 
-scoped-read : (marks : List Mark) → ScopedRead marks (scoped_at marks)
+scoped-read : (marks : List MarkedByte) → ScopedRead marks (scoped_at marks)
 unfolding scoped_at
 scoped-read marks = scoped-step marks (word_at marks) refl
 
-pub synonym-reads : (marks : List Mark) (one : QualifiedValue) → read_synonym marks ≡ Ok one → Reads shapes.Synonym marks one
+pub synonym-reads : (marks : List MarkedByte) (one : QualifiedValue) → read_synonym marks ≡ Ok one → Reads shapes.Synonym marks one
 unfolding read_synonym
 synonym-reads marks one h =
     let n = went-on (quoted_at marks) (λ (text : Two). next (list_at (scoped_at text.1).2) (λ (list : Listed). ended list.1 (value.Synonym (read_as text.0) (scoped_at text.1).0 (scoped_at text.1).1 list.0))) one h in
@@ -185,19 +185,19 @@ synonym-reads marks one h =
 
 -- ---- properties
 
-word-quoted : (marks run rest inside more : List Mark) → (first : HasRun marks run rest) (has : HasQuoted rest inside more) → marks ≡ first.blanks ++ ((run ++ has.blanks ++ quoted_marks inside) ++ more)
+word-quoted : (marks run rest inside more : List MarkedByte) → (first : HasRun marks run rest) (has : HasQuoted rest inside more) → marks ≡ first.blanks ++ ((run ++ has.blanks ++ quoted_marks inside) ++ more)
 word-quoted marks run rest inside more first has =
     first.whole ∙ (ap (λ l. first.blanks ++ (run ++ l)) has.whole ∙ simp append_assoc)
 
 -- an optional word
-record MoreWord (marks : List Mark) (o : Option (List Mark)) (rest : List Mark) : Type 0 where
-  part : List Mark
+record MoreWord (marks : List MarkedByte) (o : Option (List MarkedByte)) (rest : List MarkedByte) : Type 0 where
+  part : List MarkedByte
   datatype : Option (List ℕ)
   whole : marks ≡ part ++ rest
   is : IsMoreWord part datatype
   same : datatype_of o ≡ unwrap_or datatype text_datatype
 
-more-step : (marks : List Mark) (o : Option Two) → word_at marks ≡ o → let r = found {B = Option (List Mark) × List Mark} o (None, marks) (λ (word : Two). (Some word.0, word.1)) in MoreWord marks r.0 r.1
+more-step : (marks : List MarkedByte) (o : Option Two) → word_at marks ≡ o → let r = found {B = Option (List MarkedByte) × List MarkedByte} o (None, marks) (λ (word : Two). (Some word.0, word.1)) in MoreWord marks r.0 r.1
 more-step marks None e = record { part = []; datatype = None; whole = refl; is = IsMoreWord.nothing; same = refl }
 more-step marks (Some word) e =
     let has = word-found marks word.0 word.1 e in
@@ -209,10 +209,10 @@ more-step marks (Some word) e =
       same = refl;
     }
 
-more-word : (marks : List Mark) → MoreWord marks (may_have_word marks).0 (may_have_word marks).1
+more-word : (marks : List MarkedByte) → MoreWord marks (may_have_word marks).0 (may_have_word marks).1
 more-word marks = more-step marks (word_at marks) refl
 
-literal-reads : (marks : List Mark) (word : Two) (one : QualifiedValue) → HasRun marks word.0 word.1 → read_literal (read_as word.0) word.1 ≡ Ok one → Reads shapes.Property marks one
+literal-reads : (marks : List MarkedByte) (word : Two) (one : QualifiedValue) → HasRun marks word.0 word.1 → read_literal (read_as word.0) word.1 ≡ Ok one → Reads shapes.Property marks one
 unfolding read_literal
 literal-reads marks word one first h =
     let n = went-on (quoted_at word.1) (λ (text : Two). ended (may_have_word text.1).1 (value.Literal (read_as word.0) (read_as text.0) (datatype_of (may_have_word text.1).0))) one h in
@@ -226,7 +226,7 @@ literal-reads marks word one first h =
     (λ behind. subst (IsValue behind shapes.Property part) (ap (λ d. value.Literal (read_as word.0) (read_as n.got.0) d) (sym more.same)) (IsValue.literal word.0 has.blanks (quoted_marks n.got.0) more.part (read_as word.0) (read_as n.got.0) more.datatype (run-word marks word.0 word.1 first) has.blank (quoted-is n.got.0 has.each) more.is))
     (ended-ok rest read one n.on)
 
-link-reads : (marks : List Mark) (word : Two) (one : QualifiedValue) → HasRun marks word.0 word.1 → read_link (read_as word.0) word.1 ≡ Ok one → Reads shapes.Property marks one
+link-reads : (marks : List MarkedByte) (word : Two) (one : QualifiedValue) → HasRun marks word.0 word.1 → read_link (read_as word.0) word.1 ≡ Ok one → Reads shapes.Property marks one
 unfolding read_link
 link-reads marks word one first h =
     let m = went-on (want_word word.1) (λ (target : Two). ended target.1 (value.Link (read_as word.0) (read_as target.0))) one h in
@@ -235,19 +235,19 @@ link-reads marks word one first h =
     (λ behind. IsValue.link word.0 has.blanks m.got.0 (read_as word.0) (read_as m.got.0) (run-word marks word.0 word.1 first) (spaced marks word.0 word.1 m.got.0 m.got.1 first has) has.blank (run-word word.1 m.got.0 m.got.1 has))
     (ended-ok m.got.1 (value.Link (read_as word.0) (read_as m.got.0)) one m.on)
 
-object-step : (marks : List Mark) (word : Two) (one : QualifiedValue) (o : Option (List Mark)) → HasRun marks word.0 word.1 → found {B = Answer QualifiedValue} o (read_link (read_as word.0) word.1) (λ (_ : List Mark). read_literal (read_as word.0) word.1) ≡ Ok one → Reads shapes.Property marks one
+object-step : (marks : List MarkedByte) (word : Two) (one : QualifiedValue) (o : Option (List MarkedByte)) → HasRun marks word.0 word.1 → found {B = Answer QualifiedValue} o (read_link (read_as word.0) word.1) (λ (_ : List MarkedByte). read_literal (read_as word.0) word.1) ≡ Ok one → Reads shapes.Property marks one
 object-step marks word one None first h = link-reads marks word one first h
 object-step marks word one (Some inside) first h = literal-reads marks word one first h
 
-pub property-reads : (marks : List Mark) (one : QualifiedValue) → read_property marks ≡ Ok one → Reads shapes.Property marks one
+pub property-reads : (marks : List MarkedByte) (one : QualifiedValue) → read_property marks ≡ Ok one → Reads shapes.Property marks one
 unfolding read_property
 property-reads marks one h =
-    let n = went-on (want_word marks) (λ (word : Two). found {B = Answer QualifiedValue} (behind_sign 34 (behind_blanks word.1)) (read_link (read_as word.0) word.1) (λ (_ : List Mark). read_literal (read_as word.0) word.1)) one h in
+    let n = went-on (want_word marks) (λ (word : Two). found {B = Answer QualifiedValue} (behind_sign 34 (behind_blanks word.1)) (read_link (read_as word.0) word.1) (λ (_ : List MarkedByte). read_literal (read_as word.0) word.1)) one h in
     object-step marks n.got one (behind_sign 34 (behind_blanks n.got.1)) (want-found marks n.got n.found) n.on
 
 -- ---- subsets and types of synonyms
 
-pub subset-reads : (marks : List Mark) (one : QualifiedValue) → read_subset marks ≡ Ok one → Reads shapes.SubsetDef marks one
+pub subset-reads : (marks : List MarkedByte) (one : QualifiedValue) → read_subset marks ≡ Ok one → Reads shapes.SubsetDef marks one
 unfolding read_subset
 subset-reads marks one h =
     let n = went-on (want_word marks) (λ (word : Two). next (quoted_at word.1) (λ (text : Two). ended text.1 (value.SubsetDef (read_as word.0) (read_as text.0)))) one h in
@@ -260,14 +260,14 @@ subset-reads marks one h =
 
 -- an optional scope
 abbrev pub TypeScope : Type 0
-TypeScope = Option Scope × List Mark
+TypeScope = Option Scope × List MarkedByte
 
-record TypeScopeRead (marks : List Mark) (read : TypeScope) : Type 0 where
-  part : List Mark
+record TypeScopeRead (marks : List MarkedByte) (read : TypeScope) : Type 0 where
+  part : List MarkedByte
   whole : marks ≡ part ++ read.1
   is : IsTypeScope part read.0
 
-scope-wanted : (marks : List Mark) (word : Two) (read : TypeScope) (o : Option Scope) → scope_of (read_as word.0) ≡ o → HasRun marks word.0 word.1 → next {A = Scope} {B = TypeScope} (wanted syntax.Trailing o) (λ (one : Scope). Ok (Some one, word.1)) ≡ Ok read → TypeScopeRead marks read
+scope-wanted : (marks : List MarkedByte) (word : Two) (read : TypeScope) (o : Option Scope) → scope_of (read_as word.0) ≡ o → HasRun marks word.0 word.1 → next {A = Scope} {B = TypeScope} (wanted syntax.Trailing o) (λ (one : Scope). Ok (Some one, word.1)) ≡ Ok read → TypeScopeRead marks read
 scope-wanted marks word read None e has h = cc
 scope-wanted marks word read (Some one) e has h =
     let is : TypeScopeRead marks (Some one, word.1) = record {
@@ -277,18 +277,18 @@ scope-wanted marks word read (Some one) e has h =
     } in
     subst (TypeScopeRead marks) (same-ok (Some one, word.1) read h) is
 
-type_scope-step : (marks : List Mark) (read : TypeScope) (o : Option Two) → word_at marks ≡ o → found {B = Answer TypeScope} o (Ok (None, marks)) (λ (word : Two). next {A = Scope} {B = TypeScope} (wanted syntax.Trailing (scope_of (read_as word.0))) (λ (one : Scope). Ok (Some one, word.1))) ≡ Ok read → TypeScopeRead marks read
+type_scope-step : (marks : List MarkedByte) (read : TypeScope) (o : Option Two) → word_at marks ≡ o → found {B = Answer TypeScope} o (Ok (None, marks)) (λ (word : Two). next {A = Scope} {B = TypeScope} (wanted syntax.Trailing (scope_of (read_as word.0))) (λ (one : Scope). Ok (Some one, word.1))) ≡ Ok read → TypeScopeRead marks read
 type_scope-step marks read None e h =
     let is : TypeScopeRead marks (None, marks) = record { part = []; whole = refl; is = IsTypeScope.nothing } in
     subst (TypeScopeRead marks) (same-ok (None, marks) read h) is
 type_scope-step marks read (Some word) e h =
     scope-wanted marks word read (scope_of (read_as word.0)) refl (word-found marks word.0 word.1 e) h
 
-type_scope-read : (marks : List Mark) (read : TypeScope) → type_scope_at marks ≡ Ok read → TypeScopeRead marks read
+type_scope-read : (marks : List MarkedByte) (read : TypeScope) → type_scope_at marks ≡ Ok read → TypeScopeRead marks read
 unfolding type_scope_at
 type_scope-read marks read h = type_scope-step marks read (word_at marks) refl h
 
-pub synonym_type-reads : (marks : List Mark) (one : QualifiedValue) → read_synonym_type marks ≡ Ok one → Reads shapes.SynonymDef marks one
+pub synonym_type-reads : (marks : List MarkedByte) (one : QualifiedValue) → read_synonym_type marks ≡ Ok one → Reads shapes.SynonymDef marks one
 unfolding read_synonym_type
 synonym_type-reads marks one h =
     let n = went-on (want_word marks) (λ (word : Two). next (quoted_at word.1) (λ (text : Two). next (type_scope_at text.1) (λ (said : TypeScope). ended said.1 (value.SynonymDef (read_as word.0) (read_as text.0) said.0)))) one h in
@@ -305,7 +305,7 @@ synonym_type-reads marks one h =
 
 -- ---- runs of characters
 
-pub text-reads : (marks : List Mark) (one : QualifiedValue) → read_text marks ≡ Ok one → Reads shapes.Text marks one
+pub text-reads : (marks : List MarkedByte) (one : QualifiedValue) → read_text marks ≡ Ok one → Reads shapes.Text marks one
 unfolding read_text
 text-reads marks one h =
     let r = free_run false (behind_blanks marks) in
@@ -326,7 +326,7 @@ text-reads marks one h =
     })
 
 -- a run that is not empty and begins with no blank is not empty without its last blanks
-some-left : (run blanks : List Mark) (kept : List Mark) → run ≡ kept ++ blanks → Stops is_space run → AreBlanks blanks → 0 < length run → 0 < length kept
+some-left : (run blanks : List MarkedByte) (kept : List MarkedByte) → run ≡ kept ++ blanks → Stops is_space run → AreBlanks blanks → 0 < length run → 0 < length kept
 some-left run blanks (x ∷ kept) whole stops blank some = omega arith
 some-left run [] [] whole stops blank some = absurd (omega (arith, ap length whole))
 some-left run (x ∷ blanks) [] whole stops blank some =
@@ -338,7 +338,7 @@ some-left run (x ∷ blanks) [] whole stops blank some =
     both : is_space x ≡ false → is_space x ≡ true → ⊥
     both a b = let e : false ≡ true = sym a ∙ b in cc
 
-label-reads : (marks : List Mark) (one : QualifiedValue) → let r = free_run true (behind_blanks marks) in 0 < length r.0 → labelled (read_as (trim_end is_space r.0)) r.1 ≡ Ok one → Reads shapes.XrefShape marks one
+label-reads : (marks : List MarkedByte) (one : QualifiedValue) → let r = free_run true (behind_blanks marks) in 0 < length r.0 → labelled (read_as (trim_end is_space r.0)) r.1 ≡ Ok one → Reads shapes.XrefShape marks one
 label-reads marks one some h =
     let r = free_run true (behind_blanks marks) in
     let id = trim_end is_space r.0 in
@@ -364,7 +364,7 @@ label-reads marks one some h =
       ended = tail.is;
     }
 
-unlabelled-reads : (marks : List Mark) (qualifiers : List Qualifier) (one : QualifiedValue) → let r = free_run true (behind_blanks marks) in 0 < length r.0 → ending_at r.1 ≡ Some qualifiers → qualified_value (xref (read_as (trim_end is_space r.0)) None) qualifiers ≡ one → Reads shapes.XrefShape marks one
+unlabelled-reads : (marks : List MarkedByte) (qualifiers : List Qualifier) (one : QualifiedValue) → let r = free_run true (behind_blanks marks) in 0 < length r.0 → ending_at r.1 ≡ Some qualifiers → qualified_value (xref (read_as (trim_end is_space r.0)) None) qualifiers ≡ one → Reads shapes.XrefShape marks one
 unlabelled-reads marks qualifiers one some e same =
     let r = free_run true (behind_blanks marks) in
     let id = trim_end is_space r.0 in
@@ -383,12 +383,12 @@ unlabelled-reads marks qualifiers one some e same =
       ended = ending-found r.1 qualifiers e;
     })
 
-xref-step : (marks : List Mark) (one : QualifiedValue) (o : Option (List Qualifier)) → let r = free_run true (behind_blanks marks) in ending_at r.1 ≡ o → 0 < length r.0 → found {B = Answer QualifiedValue} o (labelled (read_as (trim_end is_space r.0)) r.1) (λ (qualifiers : List Qualifier). Ok (qualified_value (xref (read_as (trim_end is_space r.0)) None) qualifiers)) ≡ Ok one → Reads shapes.XrefShape marks one
+xref-step : (marks : List MarkedByte) (one : QualifiedValue) (o : Option (List Qualifier)) → let r = free_run true (behind_blanks marks) in ending_at r.1 ≡ o → 0 < length r.0 → found {B = Answer QualifiedValue} o (labelled (read_as (trim_end is_space r.0)) r.1) (λ (qualifiers : List Qualifier). Ok (qualified_value (xref (read_as (trim_end is_space r.0)) None) qualifiers)) ≡ Ok one → Reads shapes.XrefShape marks one
 xref-step marks one None e some h = label-reads marks one some h
 xref-step marks one (Some qualifiers) e some h =
     unlabelled-reads marks qualifiers one some e (same-ok (qualified_value (xref (read_as (trim_end is_space (free_run true (behind_blanks marks)).0)) None) qualifiers) one h)
 
-run-step : (marks : List Mark) (one : QualifiedValue) (b : Bool) → let r = free_run true (behind_blanks marks) in (length r.0 == 0) ≡ b → cond {A = Answer QualifiedValue} b (Err syntax.NoValue) (found {B = Answer QualifiedValue} (ending_at r.1) (labelled (read_as (trim_end is_space r.0)) r.1) (λ (qualifiers : List Qualifier). Ok (qualified_value (xref (read_as (trim_end is_space r.0)) None) qualifiers))) ≡ Ok one → Reads shapes.XrefShape marks one
+run-step : (marks : List MarkedByte) (one : QualifiedValue) (b : Bool) → let r = free_run true (behind_blanks marks) in (length r.0 == 0) ≡ b → cond {A = Answer QualifiedValue} b (Err syntax.NoValue) (found {B = Answer QualifiedValue} (ending_at r.1) (labelled (read_as (trim_end is_space r.0)) r.1) (λ (qualifiers : List Qualifier). Ok (qualified_value (xref (read_as (trim_end is_space r.0)) None) qualifiers))) ≡ Ok one → Reads shapes.XrefShape marks one
 run-step marks one true e h = cc
 run-step marks one false e h =
     xref-step marks one (ending_at (free_run true (behind_blanks marks)).1) refl (longer (length (free_run true (behind_blanks marks)).0) e) h
@@ -397,6 +397,6 @@ run-step marks one false e h =
     longer zero e = cc
     longer (suc n) e = omega arith
 
-pub xref-reads : (marks : List Mark) (one : QualifiedValue) → read_xref marks ≡ Ok one → Reads shapes.XrefShape marks one
+pub xref-reads : (marks : List MarkedByte) (one : QualifiedValue) → read_xref marks ≡ Ok one → Reads shapes.XrefShape marks one
 unfolding read_xref
 xref-reads marks one h = run-step marks one (length (free_run true (behind_blanks marks)).0 == 0) refl h

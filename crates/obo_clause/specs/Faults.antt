@@ -13,13 +13,13 @@ use Rattle.obo_clause.specs.declared.clause.Xref.{Xref}
 use Rattle.obo_clause.specs.declared.line.SyntaxKind.{SyntaxKind}
 use Rattle.obo_clause.specs.declared.line.SyntaxKind.TheVariants as syntax
 use Rattle.obo_clause.specs.Grammar.{AreBlanks, IsEnding, IsFree, IsQuoted, IsSlot, IsWord, IsXrefList}
-use Rattle.obo_clause.specs.Marks.{Mark, marks_of}
+use Rattle.obo_clause.specs.Marks.{MarkedByte, marks_of}
 use Rattle.obo_clause.specs.Spelling.{IsFrameLine, IsNoScope, IsTagged, bool_word, scope_word, shape_at}
 use Rattle.obo_clause.specs.Vocabulary.{comma, is_bare, is_entry_mark, is_one_of, is_quoted_mark, is_space, is_word_mark, list_open, quote}
 
 -- what is wrong from some place on
 abbrev pub Wrong : Type 1
-Wrong = List Mark → SyntaxKind → Type 0
+Wrong = List MarkedByte → SyntaxKind → Type 0
 
 -- nothing is left, or what comes first is none of the class
 abbrev pub Stops : {A : Type 0} → (A → Bool) → List A → Type 0
@@ -27,112 +27,112 @@ Stops class [] = Unit {0}
 Stops class (first ∷ rest) = IsFalse (class first)
 
 -- what is left behind all blanks with which the marks begin
-pub record IsBehindBlanks (marks rest : List Mark) : Type 0 where
-  pub blanks : List Mark
+pub record IsBehindBlanks (marks rest : List MarkedByte) : Type 0 where
+  pub blanks : List MarkedByte
   pub whole : marks ≡ blanks ++ rest
   pub blank : AreBlanks blanks
   pub stops : Stops is_space rest
 
 -- what is left behind the word with which the marks begin
-pub record IsBehindWord (marks : List Mark) (word : List ℕ) (rest : List Mark) : Type 0 where
-  pub run : List Mark
+pub record IsBehindWord (marks : List MarkedByte) (word : List ℕ) (rest : List MarkedByte) : Type 0 where
+  pub run : List MarkedByte
   pub whole : marks ≡ run ++ rest
   pub is_word : IsWord run word
   pub stops : Stops is_word_mark rest
 
 -- blanks and then no word
-pub record HasNoWord (marks : List Mark) : Type 0 where
-  pub rest : List Mark
+pub record HasNoWord (marks : List MarkedByte) : Type 0 where
+  pub rest : List MarkedByte
   pub behind : IsBehindBlanks marks rest
   pub stops : Stops is_word_mark rest
 
 -- blanks and then a word
-pub record HasWord (marks : List Mark) (word : List ℕ) (rest : List Mark) : Type 0 where
-  pub all : List Mark
+pub record HasWord (marks : List MarkedByte) (word : List ℕ) (rest : List MarkedByte) : Type 0 where
+  pub all : List MarkedByte
   pub behind : IsBehindBlanks marks all
   pub read : IsBehindWord all word rest
 
 -- the mark is the sign `"`, and the sign `[`
-abbrev pub is_quote : Mark → Bool
+abbrev pub is_quote : MarkedByte → Bool
 is_quote mark = is_bare (is_one_of (codes "\"")) mark
 
-abbrev pub is_list_open : Mark → Bool
+abbrev pub is_list_open : MarkedByte → Bool
 is_list_open mark = is_bare (is_one_of (codes "[")) mark
 
 -- the mark goes on in an xref list behind an entry, or ends the list
-abbrev pub is_slot_end : Mark → Bool
+abbrev pub is_slot_end : MarkedByte → Bool
 is_slot_end mark = is_bare (is_one_of (codes ",]")) mark
 
 -- a word is wanted, and then what goes by the word
-pub data WantsWord (next : List ℕ → Wrong) (marks : List Mark) : SyntaxKind → Type 0 where
+pub data WantsWord (next : List ℕ → Wrong) (marks : List MarkedByte) : SyntaxKind → Type 0 where
   missing : HasNoWord marks → WantsWord next marks syntax.NoValue
-  later : (word : List ℕ) (rest : List Mark) (kind : SyntaxKind) → HasWord marks word rest → next word rest kind → WantsWord next marks kind
+  later : (word : List ℕ) (rest : List MarkedByte) (kind : SyntaxKind) → HasWord marks word rest → next word rest kind → WantsWord next marks kind
 
 -- a word may stand here, and then what goes by it
-pub data MayHaveWord (next : Option (List ℕ) → Wrong) (marks : List Mark) : SyntaxKind → Type 0 where
+pub data MayHaveWord (next : Option (List ℕ) → Wrong) (marks : List MarkedByte) : SyntaxKind → Type 0 where
   without : (kind : SyntaxKind) → HasNoWord marks → next None marks kind → MayHaveWord next marks kind
-  later : (word : List ℕ) (rest : List Mark) (kind : SyntaxKind) → HasWord marks word rest → next (Some word) rest kind → MayHaveWord next marks kind
+  later : (word : List ℕ) (rest : List MarkedByte) (kind : SyntaxKind) → HasWord marks word rest → next (Some word) rest kind → MayHaveWord next marks kind
 
 -- a quoted text is wanted
-pub data WantsQuoted (next : Wrong) (marks : List Mark) : SyntaxKind → Type 0 where
-  missing : (rest : List Mark) → IsBehindBlanks marks rest → Stops is_quote rest → WantsQuoted next marks syntax.NoQuote
-  endless : (rest : List Mark) → IsBehindBlanks marks (quote ∷ rest) → AllPass is_quoted_mark rest → WantsQuoted next marks syntax.OpenQuote
-  later : (quoted rest : List Mark) (text : List ℕ) (kind : SyntaxKind) → IsBehindBlanks marks (quoted ++ rest) → IsQuoted quoted text → next rest kind → WantsQuoted next marks kind
+pub data WantsQuoted (next : Wrong) (marks : List MarkedByte) : SyntaxKind → Type 0 where
+  missing : (rest : List MarkedByte) → IsBehindBlanks marks rest → Stops is_quote rest → WantsQuoted next marks syntax.NoQuote
+  endless : (rest : List MarkedByte) → IsBehindBlanks marks (quote ∷ rest) → AllPass is_quoted_mark rest → WantsQuoted next marks syntax.OpenQuote
+  later : (quoted rest : List MarkedByte) (text : List ℕ) (kind : SyntaxKind) → IsBehindBlanks marks (quoted ++ rest) → IsQuoted quoted text → next rest kind → WantsQuoted next marks kind
 
 -- what is wrong behind the `[` of an xref list
-pub data ListFails : List Mark → SyntaxKind → Type 0 where
+pub data ListFails : List MarkedByte → SyntaxKind → Type 0 where
   -- a slot is as it should be, and something is wrong behind its comma
-  later : (marks rest : List Mark) (xrefs : List Xref) (kind : SyntaxKind) → IsSlot marks xrefs → ListFails rest kind → ListFails (marks ++ comma ∷ rest) kind
+  later : (marks rest : List MarkedByte) (xrefs : List Xref) (kind : SyntaxKind) → IsSlot marks xrefs → ListFails rest kind → ListFails (marks ++ comma ∷ rest) kind
   -- the line ends in an entry or before one
-  endless : (marks : List Mark) → AllPass is_entry_mark marks → ListFails marks syntax.XrefList
+  endless : (marks : List MarkedByte) → AllPass is_entry_mark marks → ListFails marks syntax.XrefList
   -- a label has no entry before it
-  lone_label : (blanks rest : List Mark) → AreBlanks blanks → ListFails (blanks ++ quote ∷ rest) syntax.XrefList
+  lone_label : (blanks rest : List MarkedByte) → AreBlanks blanks → ListFails (blanks ++ quote ∷ rest) syntax.XrefList
   -- a label has no end
-  endless_label : (id rest : List Mark) → AllPass is_entry_mark id → ¬ AreBlanks id → AllPass is_quoted_mark rest → ListFails (id ++ quote ∷ rest) syntax.OpenQuote
+  endless_label : (id rest : List MarkedByte) → AllPass is_entry_mark id → ¬ AreBlanks id → AllPass is_quoted_mark rest → ListFails (id ++ quote ∷ rest) syntax.OpenQuote
   -- something other than a comma and the list's end stands behind a label
-  behind_label : (id label more rest : List Mark) (text : List ℕ) → AllPass is_entry_mark id → ¬ AreBlanks id → IsQuoted label text → IsBehindBlanks more rest → Stops is_slot_end rest → ListFails (id ++ label ++ more) syntax.XrefList
+  behind_label : (id label more rest : List MarkedByte) (text : List ℕ) → AllPass is_entry_mark id → ¬ AreBlanks id → IsQuoted label text → IsBehindBlanks more rest → Stops is_slot_end rest → ListFails (id ++ label ++ more) syntax.XrefList
 
 -- an xref list may stand here
-pub data MayHaveList (next : Wrong) (marks : List Mark) : SyntaxKind → Type 0 where
-  without : (rest : List Mark) (kind : SyntaxKind) → IsBehindBlanks marks rest → Stops is_list_open rest → next marks kind → MayHaveList next marks kind
-  broken : (rest : List Mark) (kind : SyntaxKind) → IsBehindBlanks marks (list_open ∷ rest) → ListFails rest kind → MayHaveList next marks kind
-  later : (list rest : List Mark) (xrefs : List Xref) (kind : SyntaxKind) → IsBehindBlanks marks (list ++ rest) → IsXrefList list xrefs → next rest kind → MayHaveList next marks kind
+pub data MayHaveList (next : Wrong) (marks : List MarkedByte) : SyntaxKind → Type 0 where
+  without : (rest : List MarkedByte) (kind : SyntaxKind) → IsBehindBlanks marks rest → Stops is_list_open rest → next marks kind → MayHaveList next marks kind
+  broken : (rest : List MarkedByte) (kind : SyntaxKind) → IsBehindBlanks marks (list_open ∷ rest) → ListFails rest kind → MayHaveList next marks kind
+  later : (list rest : List MarkedByte) (xrefs : List Xref) (kind : SyntaxKind) → IsBehindBlanks marks (list ++ rest) → IsXrefList list xrefs → next rest kind → MayHaveList next marks kind
 
 -- the line is to end here
-pub data WantsEnd (marks : List Mark) : SyntaxKind → Type 0 where
-  trailing : (rest : List Mark) → IsBehindBlanks marks rest → ((qualifiers : List Qualifier) → ¬ IsEnding rest qualifiers) → WantsEnd marks syntax.Trailing
+pub data WantsEnd (marks : List MarkedByte) : SyntaxKind → Type 0 where
+  trailing : (rest : List MarkedByte) → IsBehindBlanks marks rest → ((qualifiers : List Qualifier) → ¬ IsEnding rest qualifiers) → WantsEnd marks syntax.Trailing
 
 -- a word that is to be `true` or `false`
-pub data WantsTruth (word : List ℕ) (marks : List Mark) : SyntaxKind → Type 0 where
+pub data WantsTruth (word : List ℕ) (marks : List MarkedByte) : SyntaxKind → Type 0 where
   other : ((truth : Bool) → ¬ (word ≡ bool_word truth)) → WantsTruth word marks syntax.BadBool
   later : (truth : Bool) (kind : SyntaxKind) → word ≡ bool_word truth → WantsEnd marks kind → WantsTruth word marks kind
 
 -- a word that may be a scope, and then possibly a type; a word that is no scope is the type
-pub data MayHaveScope (next : Wrong) : Option (List ℕ) → List Mark → SyntaxKind → Type 0 where
-  without : (marks : List Mark) (kind : SyntaxKind) → next marks kind → MayHaveScope next None marks kind
-  scoped : (marks : List Mark) (one : Scope) (kind : SyntaxKind) → MayHaveWord (λ _. next) marks kind → MayHaveScope next (Some (scope_word one)) marks kind
-  typed : (word : List ℕ) (marks : List Mark) (kind : SyntaxKind) → IsNoScope word → next marks kind → MayHaveScope next (Some word) marks kind
+pub data MayHaveScope (next : Wrong) : Option (List ℕ) → List MarkedByte → SyntaxKind → Type 0 where
+  without : (marks : List MarkedByte) (kind : SyntaxKind) → next marks kind → MayHaveScope next None marks kind
+  scoped : (marks : List MarkedByte) (one : Scope) (kind : SyntaxKind) → MayHaveWord (λ _. next) marks kind → MayHaveScope next (Some (scope_word one)) marks kind
+  typed : (word : List ℕ) (marks : List MarkedByte) (kind : SyntaxKind) → IsNoScope word → next marks kind → MayHaveScope next (Some word) marks kind
 
 -- a word that is to be a scope, if there is one
-pub data MayBeScope : Option (List ℕ) → List Mark → SyntaxKind → Type 0 where
-  without : (marks : List Mark) (kind : SyntaxKind) → WantsEnd marks kind → MayBeScope None marks kind
-  scoped : (marks : List Mark) (one : Scope) (kind : SyntaxKind) → WantsEnd marks kind → MayBeScope (Some (scope_word one)) marks kind
-  other : (word : List ℕ) (marks : List Mark) → IsNoScope word → MayBeScope (Some word) marks syntax.Trailing
+pub data MayBeScope : Option (List ℕ) → List MarkedByte → SyntaxKind → Type 0 where
+  without : (marks : List MarkedByte) (kind : SyntaxKind) → WantsEnd marks kind → MayBeScope None marks kind
+  scoped : (marks : List MarkedByte) (one : Scope) (kind : SyntaxKind) → WantsEnd marks kind → MayBeScope (Some (scope_word one)) marks kind
+  other : (word : List ℕ) (marks : List MarkedByte) → IsNoScope word → MayBeScope (Some word) marks syntax.Trailing
 
 -- a quoted text with its datatype, or a word
-pub data WantsObject (marks : List Mark) : SyntaxKind → Type 0 where
-  text : (rest : List Mark) (kind : SyntaxKind) → IsBehindBlanks marks (quote ∷ rest) → WantsQuoted (MayHaveWord (λ _. WantsEnd)) marks kind → WantsObject marks kind
-  word : (rest : List Mark) (kind : SyntaxKind) → IsBehindBlanks marks rest → Stops is_quote rest → WantsWord (λ _. WantsEnd) marks kind → WantsObject marks kind
+pub data WantsObject (marks : List MarkedByte) : SyntaxKind → Type 0 where
+  text : (rest : List MarkedByte) (kind : SyntaxKind) → IsBehindBlanks marks (quote ∷ rest) → WantsQuoted (MayHaveWord (λ _. WantsEnd)) marks kind → WantsObject marks kind
+  word : (rest : List MarkedByte) (kind : SyntaxKind) → IsBehindBlanks marks rest → Stops is_quote rest → WantsWord (λ _. WantsEnd) marks kind → WantsObject marks kind
 
 -- an xref is wanted
-pub data WantsXref (marks : List Mark) : SyntaxKind → Type 0 where
+pub data WantsXref (marks : List MarkedByte) : SyntaxKind → Type 0 where
   -- the line ends
-  missing : (rest : List Mark) (qualifiers : List Qualifier) → IsBehindBlanks marks rest → IsEnding rest qualifiers → WantsXref marks syntax.NoValue
+  missing : (rest : List MarkedByte) (qualifiers : List Qualifier) → IsBehindBlanks marks rest → IsEnding rest qualifiers → WantsXref marks syntax.NoValue
   -- a label comes first
-  lone_label : (rest : List Mark) → IsBehindBlanks marks (quote ∷ rest) → WantsXref marks syntax.NoValue
+  lone_label : (rest : List MarkedByte) → IsBehindBlanks marks (quote ∷ rest) → WantsXref marks syntax.NoValue
   -- the label has no end
-  endless : (id rest : List Mark) → IsBehindBlanks marks (id ++ quote ∷ rest) → 0 < length id → AllPass is_quoted_mark id → IsFree id (quote ∷ rest) → AllPass is_quoted_mark rest → WantsXref marks syntax.OpenQuote
-  later : (id label rest : List Mark) (text : List ℕ) (kind : SyntaxKind) → IsBehindBlanks marks (id ++ label ++ rest) → 0 < length id → AllPass is_quoted_mark id → IsFree id (label ++ rest) → IsQuoted label text → WantsEnd rest kind → WantsXref marks kind
+  endless : (id rest : List MarkedByte) → IsBehindBlanks marks (id ++ quote ∷ rest) → 0 < length id → AllPass is_quoted_mark id → IsFree id (quote ∷ rest) → AllPass is_quoted_mark rest → WantsXref marks syntax.OpenQuote
+  later : (id label rest : List MarkedByte) (text : List ℕ) (kind : SyntaxKind) → IsBehindBlanks marks (id ++ label ++ rest) → 0 < length id → AllPass is_quoted_mark id → IsFree id (label ++ rest) → IsQuoted label text → WantsEnd rest kind → WantsXref marks kind
 
 -- what is wrong with the marks behind a colon, by the shape of the value there. Of a text and of what a foreign tag has
 -- nothing can be wrong

@@ -18,7 +18,7 @@ use Rattle.obo_clause.specs.declared.line.Line.{Line}
 use Rattle.obo_clause.specs.declared.line.Line.TheVariants as says
 use Rattle.obo_clause.specs.declared.line.SyntaxKind.TheVariants as syntax
 use Rattle.obo_clause.specs.declared.clause.QualifiedValue.{QualifiedValue}
-use Rattle.obo_clause.specs.Marks.{Mark, marks_of, read_as}
+use Rattle.obo_clause.specs.Marks.{MarkedByte, marks_of, read_as}
 use Rattle.obo_clause.specs.Reading.{Answer, behind, behind_blanks, behind_sign, end_at, ending_at, found, free_run, front, list_at, next, quoted_at, trim, trim_end, wanted, word_at}
 use Rattle.obo_clause.specs.Spelling.{scope_word, shape_at, text_datatype}
 use Rattle.obo_clause.specs.Vocabulary.{is_space, is_tag_byte}
@@ -28,33 +28,33 @@ abbrev pub qualified_value : Value → List Qualifier → QualifiedValue
 qualified_value one qualifiers = record { value = one; qualifiers = qualifiers }
 
 -- a value, where an ending stands behind it
-abbrev pub ended : List Mark → Value → Answer QualifiedValue
+abbrev pub ended : List MarkedByte → Value → Answer QualifiedValue
 ended marks one = next (end_at marks) (λ (qualifiers : List Qualifier). Ok (qualified_value one qualifiers))
 
 -- a word that is wanted
-abbrev pub want_word : List Mark → Answer (List Mark × List Mark)
+abbrev pub want_word : List MarkedByte → Answer (List MarkedByte × List MarkedByte)
 want_word marks = wanted syntax.NoValue (word_at marks)
 
-unfoldable pub read_text : List Mark → Answer QualifiedValue
+unfoldable pub read_text : List MarkedByte → Answer QualifiedValue
 read_text marks =
     let run = free_run false (behind_blanks marks) in
     next (wanted syntax.Trailing (ending_at run.1)) (λ (qualifiers : List Qualifier).
     Ok (qualified_value (value.Text (read_as (trim_end is_space run.0))) qualifiers))
 
-unfoldable pub read_id : List Mark → Answer QualifiedValue
+unfoldable pub read_id : List MarkedByte → Answer QualifiedValue
 read_id marks =
-    next (want_word marks) (λ (word : List Mark × List Mark). ended word.1 (value.Id (read_as word.0)))
+    next (want_word marks) (λ (word : List MarkedByte × List MarkedByte). ended word.1 (value.Id (read_as word.0)))
 
-unfoldable pub read_pair : List Mark → Answer QualifiedValue
+unfoldable pub read_pair : List MarkedByte → Answer QualifiedValue
 read_pair marks =
-    next (want_word marks) (λ (word : List Mark × List Mark).
-    next (want_word word.1) (λ (second : List Mark × List Mark).
+    next (want_word marks) (λ (word : List MarkedByte × List MarkedByte).
+    next (want_word word.1) (λ (second : List MarkedByte × List MarkedByte).
     ended second.1 (value.Pair (read_as word.0) (read_as second.0))))
 
-unfoldable pub read_id_or_pair : List Mark → Answer QualifiedValue
+unfoldable pub read_id_or_pair : List MarkedByte → Answer QualifiedValue
 read_id_or_pair marks =
-    next (want_word marks) (λ (word : List Mark × List Mark).
-    found (word_at word.1) (ended word.1 (value.Id (read_as word.0))) (λ (second : List Mark × List Mark).
+    next (want_word marks) (λ (word : List MarkedByte × List MarkedByte).
+    found (word_at word.1) (ended word.1 (value.Id (read_as word.0))) (λ (second : List MarkedByte × List MarkedByte).
     ended second.1 (value.Pair (read_as word.0) (read_as second.0))))
 
 -- the truth value that a word is for
@@ -66,15 +66,15 @@ truth_of word =
 abbrev pub want_truth : List ℕ → Answer Bool
 want_truth word = wanted syntax.BadBool (truth_of word)
 
-unfoldable pub read_bool : List Mark → Answer QualifiedValue
+unfoldable pub read_bool : List MarkedByte → Answer QualifiedValue
 read_bool marks =
-    next (want_word marks) (λ (word : List Mark × List Mark).
+    next (want_word marks) (λ (word : List MarkedByte × List MarkedByte).
     next (want_truth (read_as word.0)) (λ (truth : Bool). ended word.1 (value.Bool truth)))
 
-unfoldable pub read_definition : List Mark → Answer QualifiedValue
+unfoldable pub read_definition : List MarkedByte → Answer QualifiedValue
 read_definition marks =
-    next (quoted_at marks) (λ (text : List Mark × List Mark).
-    next (list_at text.1) (λ (list : List Xref × List Mark).
+    next (quoted_at marks) (λ (text : List MarkedByte × List MarkedByte).
+    next (list_at text.1) (λ (list : List Xref × List MarkedByte).
     ended list.1 (value.Def (read_as text.0) list.0)))
 
 -- the scope that a word is for
@@ -87,24 +87,24 @@ scope_of word =
 
 -- a scope, the type of a synonym, and the rest
 abbrev pub Scoped : Type 0
-Scoped = Scope × Option (List ℕ) × List Mark
+Scoped = Scope × Option (List ℕ) × List MarkedByte
 
 -- a second word, which is the type
-abbrev pub type_behind : Scope → List Mark → Scoped
+abbrev pub type_behind : Scope → List MarkedByte → Scoped
 type_behind one marks =
-    found (word_at marks) (one, None, marks) (λ (type : List Mark × List Mark). (one, Some (read_as type.0), type.1))
+    found (word_at marks) (one, None, marks) (λ (type : List MarkedByte × List MarkedByte). (one, Some (read_as type.0), type.1))
 
 -- the scope and the type behind the text of a synonym
-unfoldable pub scoped_at : List Mark → Scoped
+unfoldable pub scoped_at : List MarkedByte → Scoped
 scoped_at marks =
-    found (word_at marks) (scope.Related, None, marks) (λ (word : List Mark × List Mark).
+    found (word_at marks) (scope.Related, None, marks) (λ (word : List MarkedByte × List MarkedByte).
     found (scope_of (read_as word.0)) (scope.Related, Some (read_as word.0), word.1) (λ (one : Scope). type_behind one word.1))
 
-unfoldable pub read_synonym : List Mark → Answer QualifiedValue
+unfoldable pub read_synonym : List MarkedByte → Answer QualifiedValue
 read_synonym marks =
-    next (quoted_at marks) (λ (text : List Mark × List Mark).
+    next (quoted_at marks) (λ (text : List MarkedByte × List MarkedByte).
     let scoped = scoped_at text.1 in
-    next (list_at scoped.2) (λ (list : List Xref × List Mark).
+    next (list_at scoped.2) (λ (list : List Xref × List MarkedByte).
     ended list.1 (value.Synonym (read_as text.0) scoped.0 scoped.1 list.0)))
 
 -- the value of an `xref` clause
@@ -112,11 +112,11 @@ abbrev pub xref : List ℕ → Option (List ℕ) → Value
 xref id label = value.XrefValue (record { id = id; label = label })
 
 -- a label behind the run of an xref
-abbrev pub labelled : List ℕ → List Mark → Answer QualifiedValue
+abbrev pub labelled : List ℕ → List MarkedByte → Answer QualifiedValue
 labelled id marks =
-    next (quoted_at marks) (λ (label : List Mark × List Mark). ended label.1 (xref id (Some (read_as label.0))))
+    next (quoted_at marks) (λ (label : List MarkedByte × List MarkedByte). ended label.1 (xref id (Some (read_as label.0))))
 
-unfoldable pub read_xref : List Mark → Answer QualifiedValue
+unfoldable pub read_xref : List MarkedByte → Answer QualifiedValue
 read_xref marks =
     let run = free_run true (behind_blanks marks) in
     let id = read_as (trim_end is_space run.0) in
@@ -124,49 +124,49 @@ read_xref marks =
     else found (ending_at run.1) (labelled id run.1) (λ (qualifiers : List Qualifier). Ok (qualified_value (xref id None) qualifiers))
 
 -- an optional word, and the rest
-abbrev pub may_have_word : List Mark → Option (List Mark) × List Mark
+abbrev pub may_have_word : List MarkedByte → Option (List MarkedByte) × List MarkedByte
 may_have_word marks =
-    found (word_at marks) (None, marks) (λ (word : List Mark × List Mark). (Some word.0, word.1))
+    found (word_at marks) (None, marks) (λ (word : List MarkedByte × List MarkedByte). (Some word.0, word.1))
 
 -- the datatype that a word is, or that of a text that has none
-abbrev pub datatype_of : Option (List Mark) → List ℕ
+abbrev pub datatype_of : Option (List MarkedByte) → List ℕ
 datatype_of None = text_datatype
 datatype_of (Some word) = read_as word
 
 -- a text of a datatype behind its property
-unfoldable pub read_literal : List ℕ → List Mark → Answer QualifiedValue
+unfoldable pub read_literal : List ℕ → List MarkedByte → Answer QualifiedValue
 read_literal relation marks =
-    next (quoted_at marks) (λ (text : List Mark × List Mark).
+    next (quoted_at marks) (λ (text : List MarkedByte × List MarkedByte).
     let more = may_have_word text.1 in
     ended more.1 (value.Literal relation (read_as text.0) (datatype_of more.0)))
 
 -- a word behind its property
-unfoldable pub read_link : List ℕ → List Mark → Answer QualifiedValue
+unfoldable pub read_link : List ℕ → List MarkedByte → Answer QualifiedValue
 read_link relation marks =
-    next (want_word marks) (λ (target : List Mark × List Mark). ended target.1 (value.Link relation (read_as target.0)))
+    next (want_word marks) (λ (target : List MarkedByte × List MarkedByte). ended target.1 (value.Link relation (read_as target.0)))
 
-unfoldable pub read_property : List Mark → Answer QualifiedValue
+unfoldable pub read_property : List MarkedByte → Answer QualifiedValue
 read_property marks =
-    next (want_word marks) (λ (word : List Mark × List Mark).
-    found (behind_sign 34 (behind_blanks word.1)) (read_link (read_as word.0) word.1) (λ (_ : List Mark). read_literal (read_as word.0) word.1))
+    next (want_word marks) (λ (word : List MarkedByte × List MarkedByte).
+    found (behind_sign 34 (behind_blanks word.1)) (read_link (read_as word.0) word.1) (λ (_ : List MarkedByte). read_literal (read_as word.0) word.1))
 
-unfoldable pub read_subset : List Mark → Answer QualifiedValue
+unfoldable pub read_subset : List MarkedByte → Answer QualifiedValue
 read_subset marks =
-    next (want_word marks) (λ (word : List Mark × List Mark).
-    next (quoted_at word.1) (λ (text : List Mark × List Mark).
+    next (want_word marks) (λ (word : List MarkedByte × List MarkedByte).
+    next (quoted_at word.1) (λ (text : List MarkedByte × List MarkedByte).
     ended text.1 (value.SubsetDef (read_as word.0) (read_as text.0))))
 
 -- the scope behind the text of a synonym type, if there is one
-unfoldable pub type_scope_at : List Mark → Answer (Option Scope × List Mark)
+unfoldable pub type_scope_at : List MarkedByte → Answer (Option Scope × List MarkedByte)
 type_scope_at marks =
-    found (word_at marks) (Ok (None, marks)) (λ (word : List Mark × List Mark).
+    found (word_at marks) (Ok (None, marks)) (λ (word : List MarkedByte × List MarkedByte).
     next (wanted syntax.Trailing (scope_of (read_as word.0))) (λ (one : Scope). Ok (Some one, word.1)))
 
-unfoldable pub read_synonym_type : List Mark → Answer QualifiedValue
+unfoldable pub read_synonym_type : List MarkedByte → Answer QualifiedValue
 read_synonym_type marks =
-    next (want_word marks) (λ (word : List Mark × List Mark).
-    next (quoted_at word.1) (λ (text : List Mark × List Mark).
-    next (type_scope_at text.1) (λ (one : Option Scope × List Mark).
+    next (want_word marks) (λ (word : List MarkedByte × List MarkedByte).
+    next (quoted_at word.1) (λ (text : List MarkedByte × List MarkedByte).
+    next (type_scope_at text.1) (λ (one : Option Scope × List MarkedByte).
     ended one.1 (value.SynonymDef (read_as word.0) (read_as text.0) one.0))))
 
 -- the rest of a line as it stands

@@ -19,7 +19,7 @@ use Rattle.obo_clause.specs.declared.clause.Xref.{Xref}
 use Rattle.obo_clause.specs.declared.line.Line.{Line}
 use Rattle.obo_clause.specs.declared.line.Line.TheVariants as says
 use Rattle.obo_clause.specs.Grammar.{AreBlanks, AreTrimmed, IsEnding, IsFree, IsLabel, IsQuoted, IsTrimmed, IsWord, IsXrefList}
-use Rattle.obo_clause.specs.Marks.{Mark, marks_of, read_as}
+use Rattle.obo_clause.specs.Marks.{MarkedByte, marks_of, read_as}
 use Rattle.obo_clause.specs.Vocabulary.{is_quoted_mark, is_tag_byte}
 
 -- the word for a scope
@@ -43,71 +43,71 @@ abbrev pub text_datatype : List ℕ
 text_datatype = codes "xsd:string"
 
 -- a run of characters with no ending inside and no outer blank; `behind` is what stands behind it in the line
-pub record IsRun (behind marks : List Mark) (text : List ℕ) : Type 0 where
+pub record IsRun (behind marks : List MarkedByte) (text : List ℕ) : Type 0 where
   pub free : IsFree marks behind
   pub trimmed : AreTrimmed marks
   pub read : read_as marks ≡ text
 
 -- nothing, or blanks and a word
-pub data IsMoreWord : List Mark → Option (List ℕ) → Type 0 where
+pub data IsMoreWord : List MarkedByte → Option (List ℕ) → Type 0 where
   nothing : IsMoreWord [] None
-  word : (blanks marks : List Mark) (word : List ℕ) → AreBlanks blanks → IsWord marks word → IsMoreWord (blanks ++ marks) (Some word)
+  word : (blanks marks : List MarkedByte) (word : List ℕ) → AreBlanks blanks → IsWord marks word → IsMoreWord (blanks ++ marks) (Some word)
 
 -- nothing, or blanks and an xref list
-pub data IsMoreList : List Mark → List Xref → Type 0 where
+pub data IsMoreList : List MarkedByte → List Xref → Type 0 where
   nothing : IsMoreList [] []
-  list : (blanks marks : List Mark) (xrefs : List Xref) → AreBlanks blanks → IsXrefList marks xrefs → IsMoreList (blanks ++ marks) xrefs
+  list : (blanks marks : List MarkedByte) (xrefs : List Xref) → AreBlanks blanks → IsXrefList marks xrefs → IsMoreList (blanks ++ marks) xrefs
 
 -- nothing, or blanks and a second word, as every second word has them before it
-pub data IsSecondWord : List Mark → Option (List ℕ) → Type 0 where
+pub data IsSecondWord : List MarkedByte → Option (List ℕ) → Type 0 where
   nothing : IsSecondWord [] None
-  word : (blanks marks : List Mark) (word : List ℕ) → 0 < length blanks → AreBlanks blanks → IsWord marks word → IsSecondWord (blanks ++ marks) (Some word)
+  word : (blanks marks : List MarkedByte) (word : List ℕ) → 0 < length blanks → AreBlanks blanks → IsWord marks word → IsSecondWord (blanks ++ marks) (Some word)
 
 -- what stands between the text of a synonym and its xref list: a scope and a type. A first word that is no scope is the
 -- type, and the scope is then RELATED
-pub data IsScoped : List Mark → Scope → Option (List ℕ) → Type 0 where
+pub data IsScoped : List MarkedByte → Scope → Option (List ℕ) → Type 0 where
   nothing : IsScoped [] scope.Related None
-  scoped : (blanks marks more : List Mark) (one : Scope) (type : Option (List ℕ)) → AreBlanks blanks → IsWord marks (scope_word one) → IsSecondWord more type → IsScoped (blanks ++ marks ++ more) one type
-  typed : (blanks marks : List Mark) (word : List ℕ) → AreBlanks blanks → IsWord marks word → IsNoScope word → IsScoped (blanks ++ marks) scope.Related (Some word)
+  scoped : (blanks marks more : List MarkedByte) (one : Scope) (type : Option (List ℕ)) → AreBlanks blanks → IsWord marks (scope_word one) → IsSecondWord more type → IsScoped (blanks ++ marks ++ more) one type
+  typed : (blanks marks : List MarkedByte) (word : List ℕ) → AreBlanks blanks → IsWord marks word → IsNoScope word → IsScoped (blanks ++ marks) scope.Related (Some word)
 
 -- the scope of a synonym type, or nothing
-pub data IsTypeScope : List Mark → Option Scope → Type 0 where
+pub data IsTypeScope : List MarkedByte → Option Scope → Type 0 where
   nothing : IsTypeScope [] None
-  scoped : (blanks marks : List Mark) (one : Scope) → AreBlanks blanks → IsWord marks (scope_word one) → IsTypeScope (blanks ++ marks) (Some one)
+  scoped : (blanks marks : List MarkedByte) (one : Scope) → AreBlanks blanks → IsWord marks (scope_word one) → IsTypeScope (blanks ++ marks) (Some one)
 
 -- the marks are this value, in the shape of its tag; `behind` is what stands behind them in the line
-pub data IsValue (behind : List Mark) : ValueShape → List Mark → Value → Type 0 where
+pub data IsValue (behind : List MarkedByte) : ValueShape → List MarkedByte → Value → Type 0 where
   -- name: a wheel
-  text : (marks : List Mark) (text : List ℕ) → IsRun behind marks text → IsValue behind shapes.Text marks (value.Text text)
+  text : (marks : List MarkedByte) (text : List ℕ) → IsRun behind marks text → IsValue behind shapes.Text marks (value.Text text)
   -- is_a: EX:0000001
-  id : (marks : List Mark) (word : List ℕ) → IsWord marks word → IsValue behind shapes.Id marks (value.Id word)
+  id : (marks : List MarkedByte) (word : List ℕ) → IsWord marks word → IsValue behind shapes.Id marks (value.Id word)
   -- relationship: part_of EX:0000001
-  pair : (marks blanks others : List Mark) (first second : List ℕ) → IsWord marks first → 0 < length blanks → AreBlanks blanks → IsWord others second → IsValue behind shapes.Pair (marks ++ blanks ++ others) (value.Pair first second)
+  pair : (marks blanks others : List MarkedByte) (first second : List ℕ) → IsWord marks first → 0 < length blanks → AreBlanks blanks → IsWord others second → IsValue behind shapes.Pair (marks ++ blanks ++ others) (value.Pair first second)
   -- intersection_of: EX:0000001
-  class : (marks : List Mark) (word : List ℕ) → IsWord marks word → IsValue behind shapes.IdOrPair marks (value.Id word)
+  class : (marks : List MarkedByte) (word : List ℕ) → IsWord marks word → IsValue behind shapes.IdOrPair marks (value.Id word)
   -- intersection_of: part_of EX:0000001
-  restriction : (marks blanks others : List Mark) (first second : List ℕ) → IsWord marks first → 0 < length blanks → AreBlanks blanks → IsWord others second → IsValue behind shapes.IdOrPair (marks ++ blanks ++ others) (value.Pair first second)
+  restriction : (marks blanks others : List MarkedByte) (first second : List ℕ) → IsWord marks first → 0 < length blanks → AreBlanks blanks → IsWord others second → IsValue behind shapes.IdOrPair (marks ++ blanks ++ others) (value.Pair first second)
   -- is_obsolete: true
-  truth : (marks : List Mark) (truth : Bool) → IsWord marks (bool_word truth) → IsValue behind shapes.Bool marks (value.Bool truth)
+  truth : (marks : List MarkedByte) (truth : Bool) → IsWord marks (bool_word truth) → IsValue behind shapes.Bool marks (value.Bool truth)
   -- def: "A round thing." [PMID:1 "a paper", EX:2]
-  definition : (marks more : List Mark) (text : List ℕ) (xrefs : List Xref) → IsQuoted marks text → IsMoreList more xrefs → IsValue behind shapes.Def (marks ++ more) (value.Def text xrefs)
+  definition : (marks more : List MarkedByte) (text : List ℕ) (xrefs : List Xref) → IsQuoted marks text → IsMoreList more xrefs → IsValue behind shapes.Def (marks ++ more) (value.Def text xrefs)
   -- synonym: "round thing" BROAD layperson [PMID:1]
-  synonym : (marks scopes more : List Mark) (text : List ℕ) (one : Scope) (type : Option (List ℕ)) (xrefs : List Xref) → IsQuoted marks text → IsScoped scopes one type → IsMoreList more xrefs → IsValue behind shapes.Synonym (marks ++ scopes ++ more) (value.Synonym text one type xrefs)
+  synonym : (marks scopes more : List MarkedByte) (text : List ℕ) (one : Scope) (type : Option (List ℕ)) (xrefs : List Xref) → IsQuoted marks text → IsScoped scopes one type → IsMoreList more xrefs → IsValue behind shapes.Synonym (marks ++ scopes ++ more) (value.Synonym text one type xrefs)
   -- xref: PMID:1 "a paper"
-  xref : (marks blanks more : List Mark) (xref : Xref) → 0 < length marks → AllPass is_quoted_mark marks → IsRun (blanks ++ more ++ behind) marks xref.id → AreBlanks blanks → IsLabel more xref.label → IsValue behind shapes.XrefShape (marks ++ blanks ++ more) (value.XrefValue xref)
+  xref : (marks blanks more : List MarkedByte) (xref : Xref) → 0 < length marks → AllPass is_quoted_mark marks → IsRun (blanks ++ more ++ behind) marks xref.id → AreBlanks blanks → IsLabel more xref.label → IsValue behind shapes.XrefShape (marks ++ blanks ++ more) (value.XrefValue xref)
   -- property_value: IAO:0000117 "J. Doe" xsd:string
-  literal : (marks blanks texts more : List Mark) (relation text : List ℕ) (datatype : Option (List ℕ)) → IsWord marks relation → AreBlanks blanks → IsQuoted texts text → IsMoreWord more datatype → IsValue behind shapes.Property (marks ++ blanks ++ texts ++ more) (value.Literal relation text (unwrap_or datatype text_datatype))
+  literal : (marks blanks texts more : List MarkedByte) (relation text : List ℕ) (datatype : Option (List ℕ)) → IsWord marks relation → AreBlanks blanks → IsQuoted texts text → IsMoreWord more datatype → IsValue behind shapes.Property (marks ++ blanks ++ texts ++ more) (value.Literal relation text (unwrap_or datatype text_datatype))
   -- property_value: IAO:0000117 EX:0000001
-  link : (marks blanks others : List Mark) (relation target : List ℕ) → IsWord marks relation → 0 < length blanks → AreBlanks blanks → IsWord others target → IsValue behind shapes.Property (marks ++ blanks ++ others) (value.Link relation target)
+  link : (marks blanks others : List MarkedByte) (relation target : List ℕ) → IsWord marks relation → 0 < length blanks → AreBlanks blanks → IsWord others target → IsValue behind shapes.Property (marks ++ blanks ++ others) (value.Link relation target)
   -- subsetdef: slim "A small part"
-  subset : (marks blanks texts : List Mark) (id text : List ℕ) → IsWord marks id → AreBlanks blanks → IsQuoted texts text → IsValue behind shapes.SubsetDef (marks ++ blanks ++ texts) (value.SubsetDef id text)
+  subset : (marks blanks texts : List MarkedByte) (id text : List ℕ) → IsWord marks id → AreBlanks blanks → IsQuoted texts text → IsValue behind shapes.SubsetDef (marks ++ blanks ++ texts) (value.SubsetDef id text)
   -- synonymtypedef: layperson "A plain word" BROAD
-  synonym_type : (marks blanks texts more : List Mark) (id text : List ℕ) (one : Option Scope) → IsWord marks id → AreBlanks blanks → IsQuoted texts text → IsTypeScope more one → IsValue behind shapes.SynonymDef (marks ++ blanks ++ texts ++ more) (value.SynonymDef id text one)
+  synonym_type : (marks blanks texts more : List MarkedByte) (id text : List ℕ) (one : Option Scope) → IsWord marks id → AreBlanks blanks → IsQuoted texts text → IsTypeScope more one → IsValue behind shapes.SynonymDef (marks ++ blanks ++ texts ++ more) (value.SynonymDef id text one)
 
 -- what stands behind the colon: of a foreign tag any text without outer blanks; else a value, blanks and an ending
 pub data IsQualifiedValue : ValueShape → List ℕ → Value → List Qualifier → Type 0 where
   raw : (before text behind : List ℕ) → AllPass is_blank before → IsTrimmed ℕ is_blank text → AllPass is_blank behind → IsQualifiedValue shapes.Raw (before ++ text ++ behind) (value.Raw text) []
-  shaped : (shape : ValueShape) (bytes : List ℕ) (before marks between ending : List Mark) (one : Value) (qualifiers : List Qualifier) → marks_of bytes ≡ before ++ marks ++ between ++ ending → AreBlanks before → IsValue (between ++ ending) shape marks one → AreBlanks between → IsEnding ending qualifiers → IsQualifiedValue shape bytes one qualifiers
+  shaped : (shape : ValueShape) (bytes : List ℕ) (before marks between ending : List MarkedByte) (one : Value) (qualifiers : List Qualifier) → marks_of bytes ≡ before ++ marks ++ between ++ ending → AreBlanks before → IsValue (between ++ ending) shape marks one → AreBlanks between → IsEnding ending qualifiers → IsQualifiedValue shape bytes one qualifiers
 
 -- blanks, a tag, blanks, a colon and these bytes
 pub record IsTagged (line tag rest : List ℕ) : Type 0 where

@@ -18,4 +18,4 @@ pub use laws::{
     line_says_one_thing,
 };
 pub use line::{Line, LineFault, SyntaxKind};
-pub use mark::Mark;
+pub use mark::MarkedByte;

@@ -2,7 +2,7 @@
 
 /// A byte as it is read, and whether a backslash stood before it.
 #[derive(Clone, Copy, PartialEq, Eq)]
-pub struct Mark {
+pub struct MarkedByte {
     /// The byte, as it is read: the one that is meant where a backslash stood before it.
     pub byte: u8,
     /// Whether a backslash stood before it.

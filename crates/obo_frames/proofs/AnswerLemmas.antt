@@ -9,9 +9,9 @@ use Rattle.obo_clause.specs.ReadingLines.{answer_to}
 use Rattle.obo_clause.specs.declared.line.Line.{Line}
 use Rattle.obo_clause.specs.declared.line.SyntaxKind.{SyntaxKind}
 use Rattle.obo_frames.specs.Answer.{AnswersIt, IsExact, and_then, and_told, body_answer, document_of, frames_answer, lines_answer, numbered_answer, unless_faulty}
-use Rattle.obo_frames.specs.Documents.{IsDocument, IsFaultOf, IsFirstFault, first_fault, of_frame, of_line}
+use Rattle.obo_frames.specs.Documents.{IsDocument, IsFaultOfFile, IsFirstFault, first_fault, of_frame, of_line}
 use Rattle.obo_frames.specs.Frames.{placed_of}
-use Rattle.obo_frames.specs.Telling.{BodyFails, BodySays, FailsFirst, IsTold, Tells, behind, not_utf8, start, syntax, too_long}
+use Rattle.obo_frames.specs.Telling.{BodyFails, BodySays, FailsFirst, IsTold, Tells, not_utf8, place_after, start, syntax, too_long}
 use Rattle.obo_frames.specs.declared.fault.DocFault.{DocFault}
 use Rattle.obo_frames.specs.declared.placed.Placed.{Placed}
 use Rattle.obo_frames.specs.declared.told.Place.{Place}
@@ -40,20 +40,20 @@ abbrev AreAnswered : Place → List LineItem → Result (List Told) DocFault →
 AreAnswered at items (Ok tolds) = Tells at items tolds
 AreAnswered at items (Err one) = FailsFirst at items one
 
-more_are_answered : (at : Place) (item : LineItem) (items : List LineItem) (told : Told) (others : Result (List Told) DocFault) → IsTold at item told → AreAnswered (behind at told.said) items others → AreAnswered at (item ∷ items) (and_told told others)
+more_are_answered : (at : Place) (item : LineItem) (items : List LineItem) (told : Told) (others : Result (List Told) DocFault) → IsTold at item told → AreAnswered (place_after at told.said) items others → AreAnswered at (item ∷ items) (and_told told others)
 more_are_answered at item items told (Ok tolds) is rest = (is, rest)
 more_are_answered at item items told (Err one) is rest = inr (told.said, is.says, rest)
 
-all_are_answered : (at : Place) (item : LineItem) (items : List LineItem) (answer : Result Told DocFault) → IsBodyAnswer at item.number item.body answer → ((told : Told) → AreAnswered (behind at told.said) items (lines_answer (behind at told.said) items))
-    → AreAnswered at (item ∷ items) (and_then answer (λ told. lines_answer (behind at told.said) items))
+all_are_answered : (at : Place) (item : LineItem) (items : List LineItem) (answer : Result Told DocFault) → IsBodyAnswer at item.number item.body answer → ((told : Told) → AreAnswered (place_after at told.said) items (lines_answer (place_after at told.said) items))
+    → AreAnswered at (item ∷ items) (and_then answer (λ told. lines_answer (place_after at told.said) items))
 all_are_answered at item items (Ok told) is rest =
-    more_are_answered at item items told (lines_answer (behind at told.said) items) (record { line = is.0; says = is.1 }) (rest told)
+    more_are_answered at item items told (lines_answer (place_after at told.said) items) (record { line = is.0; says = is.1 }) (rest told)
 all_are_answered at item items (Err one) is rest = inl is
 
 lines_are_answered : (at : Place) (items : List LineItem) → AreAnswered at items (lines_answer at items)
 lines_are_answered at [] = tt
 lines_are_answered at (item ∷ items) =
-    all_are_answered at item items (body_answer at item.number item.body) (body_is_answered at item.number item.body) (λ told. lines_are_answered (behind at told.said) items)
+    all_are_answered at item items (body_answer at item.number item.body) (body_is_answered at item.number item.body) (λ told. lines_are_answered (place_after at told.said) items)
 
 -- ---- files
 
@@ -98,7 +98,7 @@ is_exact limit bytes =
     }
 
 -- an answer that is the document of the file, or its first fault or want of memory, is that of the function
-pub answers_it : (limit : ℕ) (bytes : List ℕ) (result : Result (List Placed) DocFault) → IfOk result (IsDocument limit bytes) → IfErr result (IsFaultOf limit bytes) → AnswersIt limit bytes result
+pub answers_it : (limit : ℕ) (bytes : List ℕ) (result : Result (List Placed) DocFault) → IfOk result (IsDocument limit bytes) → IfErr result (IsFaultOfFile limit bytes) → AnswersIt limit bytes result
 answers_it limit bytes (Ok placed) document fault = inl (sym (((is_exact limit bytes).document placed).1 document))
 answers_it limit bytes (Err one) document (inl is) = inl (sym (((is_exact limit bytes).fault one).1 is))
 answers_it limit bytes (Err one) document (inr is) = inr (ap Err is)

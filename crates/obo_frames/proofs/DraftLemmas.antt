@@ -6,7 +6,7 @@ use Rattle.obo_frames.specs.Documents.{first_fault, frame_fault, least_line}
 use Rattle.obo_frames.specs.Groups.{short_lines}
 use Rattle.obo_frames.specs.inner.Reading.{IsRead}
 use Rattle.obo_frames.specs.inner.Standing.{behind_line, lost_at_end, lost_at_line, lost_from, placed_by_line, placed_from}
-use Rattle.obo_frames.specs.Telling.{IsTold, behind, start}
+use Rattle.obo_frames.specs.Telling.{IsTold, place_after, start}
 use Rattle.obo_frames.specs.declared.fault.DocFault.{DocFault}
 use Rattle.obo_frames.specs.declared.standing.Draft.{Draft}
 use Rattle.obo_frames.specs.declared.standing.Standing.TheVariants.{Header}
@@ -43,7 +43,7 @@ places_more tolds draft next told places standing placed lost = record {
   lost = λ more. lost_step draft.lost next.lost _ draft.standing next.standing told (told ∷ more) more refl lost standing (places.lost (told ∷ more) ∙ ap (λ lines. least_line None (lost_from Header lines)) (sym (one_more tolds more told)));
 }
 
-pub progress_goes_on : (all : List LineItem) (place next : Place) (draft later : Draft) (item : LineItem) (rest : List LineItem) (told : Told) → Progress all place draft (item ∷ rest) → IsTold place item told → next ≡ behind place told.said → later.standing ≡ behind_line draft.standing told.line told.said → later.placed.items ≡ draft.placed.items ++ placed_by_line draft.standing told.line told.said → later.lost ≡ least_line draft.lost (lost_at_line draft.standing told.said) → Progress all next later rest
+pub progress_goes_on : (all : List LineItem) (place next : Place) (draft later : Draft) (item : LineItem) (rest : List LineItem) (told : Told) → Progress all place draft (item ∷ rest) → IsTold place item told → next ≡ place_after place told.said → later.standing ≡ behind_line draft.standing told.line told.said → later.placed.items ≡ draft.placed.items ++ placed_by_line draft.standing told.line told.said → later.lost ≡ least_line draft.lost (lost_at_line draft.standing told.said) → Progress all next later rest
 progress_goes_on all place next draft later item rest told progress is at standing placed lost = record {
   tolds = progress.tolds ++ told ∷ [];
   reads = subst (λ begin. Reads all (progress.tolds ++ told ∷ []) begin rest) (sym at) (reads_more all progress.tolds place item rest told progress.reads is);

@@ -7,7 +7,7 @@ use Rattle.std.proofs.lemmas.Bool.{cases_Bool, or_parts}
 use Rattle.std.proofs.lemmas.Bool.Decides.{nat_tests}
 use Rattle.std.proofs.lemmas.Slice.Eq.{bytes_eq-Decides}
 use Rattle.obo_frames.specs.Documents.{first_fault, frame_fault, least_line}
-use Rattle.obo_frames.specs.Frames.{Frame, frames_of, id_of, lacks_id, lines_without_id, placed_of}
+use Rattle.obo_frames.specs.Frames.{Frame, first_id, frames_of, lacks_id, lines_without_id, placed_of}
 use Rattle.obo_frames.specs.Framed.{unlined}
 use Rattle.obo_frames.specs.Naming.{space_of}
 use Rattle.obo_frames.specs.Groups.{differs, operands_in, same_expression, short_lines, short_lines_of}
@@ -115,9 +115,9 @@ none_is (Some id) is = absurd (cc)
 no_id-among : (tolds : List Told) (line : ℕ) → Among line (lines_without_id tolds) → FrameFails tolds (fault.NoId line)
 no_id-among tolds line among =
     let image = image-from_among lacks_id (λ (frame : Frame). frame.line) (frames_of tolds) line among in
-    subst (λ at. FrameFails tolds (fault.NoId at)) image.image (no_id image.source (contains-from_among (frames_of tolds) image.source image.among) (none_is (id_of image.source.entries) image.passes))
+    subst (λ at. FrameFails tolds (fault.NoId at)) image.image (no_id image.source (contains-from_among (frames_of tolds) image.source image.among) (none_is (first_id image.source.entries) image.passes))
 
-among-no_id : (tolds : List Told) (frame : Frame) → Contains (frames_of tolds) frame → id_of frame.entries ≡ None → Among frame.line (lines_without_id tolds)
+among-no_id : (tolds : List Told) (frame : Frame) → Contains (frames_of tolds) frame → first_id frame.entries ≡ None → Among frame.line (lines_without_id tolds)
 among-no_id tolds frame contains none =
     among-from_image lacks_id (λ (one : Frame). one.line) (frames_of tolds) frame (among-from_contains (frames_of tolds) frame contains) (ap is_none none)
 

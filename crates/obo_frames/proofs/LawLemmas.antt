@@ -14,7 +14,7 @@ use Rattle.obo_clause.specs.declared.line.Line.TheVariants as says
 use Rattle.obo_frames.specs.Frames.{id_in, placed_of}
 use Rattle.obo_frames.specs.Laws.{IsSpelledByLine, LinesRise, LinesSpell}
 use Rattle.obo_frames.specs.inner.Standing.{behind_line, place_first, placed_by_clause, placed_by_line, placed_from}
-use Rattle.obo_frames.specs.Telling.{Tells, behind, start}
+use Rattle.obo_frames.specs.Telling.{Tells, place_after, start}
 use Rattle.obo_frames.specs.declared.placed.Placed.{Placed}
 use Rattle.obo_frames.specs.declared.standing.Standing.{Standing}
 use Rattle.obo_frames.specs.declared.standing.Standing.TheVariants.{Begun, Header, Nameless, Within}
@@ -56,7 +56,7 @@ rises_from limit number [] standing at [] tells = tt
 rises_from limit number [] standing at (told ∷ tolds) tells = absurd tells
 rises_from limit number (line ∷ lines) standing at [] tells = absurd tells
 rises_from limit number (line ∷ lines) standing at (told ∷ tolds) tells =
-    let rest = rises_from limit (number + 1) lines (behind_line standing told.line told.said) (behind at told.said) tolds tells.1 in
+    let rest = rises_from limit (number + 1) lines (behind_line standing told.line told.said) (place_after at told.said) tolds tells.1 in
     let number_is = tells.0.line in
     subst (λ low. RisesFrom low (placed_from standing (told ∷ tolds))) number_is
     (rises_line standing told.line told.said _ (subst (λ low. RisesFrom (low + 1) (placed_from (behind_line standing told.line told.said) tolds)) (sym number_is) rest))

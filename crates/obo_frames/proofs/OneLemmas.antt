@@ -11,7 +11,7 @@ use Rattle.obo_clause.proofs.AnswerLemmas.{fails-one-way, has-answer, never-both
 use Rattle.obo_frames.specs.Documents.{first_fault, of_frame, of_line}
 use Rattle.obo_frames.specs.Frames.{placed_of}
 use Rattle.obo_frames.specs.Laws.{HasOneFault, IsDocumentOrFault, IsNeverBoth, IsOneDocument}
-use Rattle.obo_frames.specs.Telling.{BodyFails, BodySays, FailsFirst, IsTold, Tells, behind, not_utf8, start, syntax, too_long}
+use Rattle.obo_frames.specs.Telling.{BodyFails, BodySays, FailsFirst, IsTold, Tells, not_utf8, place_after, start, syntax, too_long}
 use Rattle.obo_frames.specs.declared.fault.DocFault.{DocFault}
 use Rattle.obo_frames.specs.declared.fault.DocFault.TheVariants as fault
 use Rattle.obo_frames.specs.declared.told.Place.{Place}
@@ -68,7 +68,7 @@ tells_one at (item ∷ items) [] other first second = absurd first
 tells_one at (item ∷ items) (told ∷ tolds) [] first second = absurd second
 tells_one at (item ∷ items) (told ∷ tolds) (other ∷ others) first second =
     let same = told_one at item told other first.0 second.0 in
-    (λ i. same i ∷ tells_one (behind at told.said) items tolds others first.1 (subst (λ (it : Told). Tells (behind at it.said) items others) (sym same) second.1) i)
+    (λ i. same i ∷ tells_one (place_after at told.said) items tolds others first.1 (subst (λ (it : Told). Tells (place_after at it.said) items others) (sym same) second.1) i)
 
 fails_one : (at : Place) (items : List LineItem) (one other : DocFault) → FailsFirst at items one → FailsFirst at items other → one ≡ other
 fails_one at [] one other first second = absurd first
@@ -80,7 +80,7 @@ fails_one at (item ∷ items) one other (inr first) (inl second) =
     absurd (never_says at item.number item.body first.0 other first.1 (body_fault at item.number item.body other second))
 fails_one at (item ∷ items) one other (inr first) (inr second) =
     let same = body_says_one at item.body second.0 first.0 second.1 first.1 in
-    fails_one (behind at first.0) items one other first.2 (subst (λ said. FailsFirst (behind at said) items other) same second.2)
+    fails_one (place_after at first.0) items one other first.2 (subst (λ said. FailsFirst (place_after at said) items other) same second.2)
 
 tells_never_fails : (at : Place) (items : List LineItem) (tolds : List Told) (one : DocFault) → Tells at items tolds → FailsFirst at items one → ⊥
 tells_never_fails at [] tolds one tells fails = fails
@@ -89,12 +89,12 @@ tells_never_fails at (item ∷ items) (told ∷ tolds) one tells (inl fails) =
     never_says at item.number item.body told.said one tells.0.says (body_fault at item.number item.body one fails)
 tells_never_fails at (item ∷ items) (told ∷ tolds) one tells (inr later) =
     let same = body_says_one at item.body later.0 told.said later.1 tells.0.says in
-    tells_never_fails (behind at told.said) items tolds one tells.1 (subst (λ said. FailsFirst (behind at said) items one) same later.2)
+    tells_never_fails (place_after at told.said) items tolds one tells.1 (subst (λ said. FailsFirst (place_after at said) items one) same later.2)
 
 abbrev IsTellable : Place → List LineItem → Type 0
 IsTellable at items = ((tolds : List Told) × Tells at items tolds) ⊎ ((one : DocFault) × FailsFirst at items one)
 
-tellable_behind : (at : Place) (item : LineItem) (items : List LineItem) (said : Line) → BodySays at item.body said → IsTellable (behind at said) items → IsTellable at (item ∷ items)
+tellable_behind : (at : Place) (item : LineItem) (items : List LineItem) (said : Line) → BodySays at item.body said → IsTellable (place_after at said) items → IsTellable at (item ∷ items)
 tellable_behind at item items said says (inl rest) =
     inl (record { line = item.number; said = said } ∷ rest.0, (record { line = refl; says = says }, rest.1))
 tellable_behind at item items said says (inr rest) = inr (rest.0, inr (said, says, rest.1))
@@ -102,7 +102,7 @@ tellable_behind at item items said says (inr rest) = inr (rest.0, inr (said, say
 tellable : (at : Place) (items : List LineItem) → IsTellable at items
 tellable at [] = inl ([], tt)
 tellable at (item ∷ items) =
-    ⊎_elim (λ says. tellable_behind at item items says.0 says.1 (tellable (behind at says.0) items)) (λ fails. inr (fails.0, inl fails.1)) (body_answers at item.number item.body)
+    ⊎_elim (λ says. tellable_behind at item items says.0 says.1 (tellable (place_after at says.0) items)) (λ fails. inr (fails.0, inl fails.1)) (body_answers at item.number item.body)
 
 -- ---- files
 

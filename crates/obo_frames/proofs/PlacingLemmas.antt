@@ -8,7 +8,7 @@ use Rattle.obo_tags.specs.declared.kind.FrameKind.TheVariants as kinds
 use Rattle.obo_clause.specs.declared.line.Line.{Line}
 use Rattle.obo_clause.specs.declared.line.Line.TheVariants as says
 use Rattle.obo_frames.specs.Documents.{least_line}
-use Rattle.obo_frames.specs.Frames.{Entry, Frame, entries_before, frames_of, id_in, lacks_id, lines_without_id, place, place_all, place_id, placed_in, placed_of, with_entry, with_frame}
+use Rattle.obo_frames.specs.Frames.{Entry, Frame, entries_before, frames_of, id_in, lacks_id, lines_without_id, place_all, place_entry, place_id, placed_in, placed_of, with_entry, with_frame}
 use Rattle.obo_frames.specs.inner.Standing.{behind_line, lost_at_line, lost_from, lost_unless, named, place_first, placed_by_line, placed_from}
 use Rattle.obo_frames.specs.declared.placed.Placed.{Placed}
 use Rattle.obo_frames.specs.declared.standing.Standing.{Standing}
@@ -26,16 +26,16 @@ all_in tolds = flat_map placed_in (frames_of tolds)
 
 -- what the lines place, by what the clauses belong to that come next
 record PlacesFrames (tolds : List Told) : Type 0 where
-  header : placed_from Header tolds ≡ map (place kinds.Header []) (entries_before tolds) ++ all_in tolds
+  header : placed_from Header tolds ≡ map (place_entry kinds.Header []) (entries_before tolds) ++ all_in tolds
   begun : (kind : FrameKind) (line : ℕ) → placed_from (Begun kind line) tolds ≡ placed_in (frame kind line (entries_before tolds)) ++ all_in tolds
-  within : (kind : FrameKind) (id : List ℕ) → placed_from (Within kind id) tolds ≡ map (place kind id) (entries_before tolds) ++ all_in tolds
+  within : (kind : FrameKind) (id : List ℕ) → placed_from (Within kind id) tolds ≡ map (place_entry kind id) (entries_before tolds) ++ all_in tolds
   nameless : placed_from Nameless tolds ≡ all_in tolds
 
-header_step : (line : ℕ) (said : Line) (tolds : List Told) → PlacesFrames tolds → placed_by_line Header line said ++ placed_from (behind_line Header line said) tolds ≡ map (place kinds.Header []) (with_entry line said (entries_before tolds)) ++ flat_map placed_in (with_frame line said (entries_before tolds) (frames_of tolds))
+header_step : (line : ℕ) (said : Line) (tolds : List Told) → PlacesFrames tolds → placed_by_line Header line said ++ placed_from (behind_line Header line said) tolds ≡ map (place_entry kinds.Header []) (with_entry line said (entries_before tolds)) ++ flat_map placed_in (with_frame line said (entries_before tolds) (frames_of tolds))
 header_step line says.Blank tolds rest = rest.header
 header_step line (says.Frame kind) tolds rest = rest.begun kind line
 header_step line (says.Content clause) tolds rest =
-    ap (λ placed. place kinds.Header [] (record { line = line; clause = clause }) ∷ placed) rest.header
+    ap (λ placed. place_entry kinds.Header [] (record { line = line; clause = clause }) ∷ placed) rest.header
 
 begun_step : (kind : FrameKind) (begun line : ℕ) (said : Line) (tolds : List Told) → PlacesFrames tolds → placed_by_line (Begun kind begun) line said ++ placed_from (behind_line (Begun kind begun) line said) tolds ≡ placed_in (frame kind begun (with_entry line said (entries_before tolds))) ++ flat_map placed_in (with_frame line said (entries_before tolds) (frames_of tolds))
 begun_step kind begun line says.Blank tolds rest = rest.begun kind begun
@@ -47,11 +47,11 @@ begun_step kind begun line (says.Content clause) tolds rest =
       | Some id ↦ ap (λ placed. place_id kind id entry ∷ placed) (rest.within kind id)
     ]
 
-within_step : (kind : FrameKind) (id : List ℕ) (line : ℕ) (said : Line) (tolds : List Told) → PlacesFrames tolds → placed_by_line (Within kind id) line said ++ placed_from (behind_line (Within kind id) line said) tolds ≡ map (place kind id) (with_entry line said (entries_before tolds)) ++ flat_map placed_in (with_frame line said (entries_before tolds) (frames_of tolds))
+within_step : (kind : FrameKind) (id : List ℕ) (line : ℕ) (said : Line) (tolds : List Told) → PlacesFrames tolds → placed_by_line (Within kind id) line said ++ placed_from (behind_line (Within kind id) line said) tolds ≡ map (place_entry kind id) (with_entry line said (entries_before tolds)) ++ flat_map placed_in (with_frame line said (entries_before tolds) (frames_of tolds))
 within_step kind id line says.Blank tolds rest = rest.within kind id
 within_step kind id line (says.Frame next) tolds rest = rest.begun next line
 within_step kind id line (says.Content clause) tolds rest =
-    ap (λ placed. place kind id (record { line = line; clause = clause }) ∷ placed) (rest.within kind id)
+    ap (λ placed. place_entry kind id (record { line = line; clause = clause }) ∷ placed) (rest.within kind id)
 
 nameless_step : (line : ℕ) (said : Line) (tolds : List Told) → PlacesFrames tolds → placed_by_line Nameless line said ++ placed_from (behind_line Nameless line said) tolds ≡ flat_map placed_in (with_frame line said (entries_before tolds) (frames_of tolds))
 nameless_step line says.Blank tolds rest = rest.nameless

@@ -2,7 +2,7 @@
 use Rattle.std.proofs.Common.{◌≡◌, ◌⊎◌, inl, inr, List, [], ◌∷◌, ◌++◌, append_assoc, append-nil, subst, sym}
 use Rattle.obo_lexer.specs.declared.line.LineItem.{LineItem}
 use Rattle.obo_frames.specs.inner.Reading.{IsItemFault}
-use Rattle.obo_frames.specs.Telling.{FailsFirst, IsTold, Tells, behind, start}
+use Rattle.obo_frames.specs.Telling.{FailsFirst, IsTold, Tells, place_after, start}
 use Rattle.obo_frames.specs.declared.fault.DocFault.{DocFault}
 use Rattle.obo_frames.specs.declared.fault.DocFault.TheVariants as fault
 use Rattle.obo_frames.specs.declared.told.Place.{Place}
@@ -23,7 +23,7 @@ pub one_more : (tolds others : List Told) (told : Told) → (tolds ++ told ∷ [
 one_more tolds others told = append_assoc tolds (told ∷ []) others
 
 -- one line more is read
-pub reads_more : (all : List LineItem) (tolds : List Told) (place : Place) (item : LineItem) (rest : List LineItem) (told : Told) → Reads all tolds place (item ∷ rest) → IsTold place item told → Reads all (tolds ++ told ∷ []) (behind place told.said) rest
+pub reads_more : (all : List LineItem) (tolds : List Told) (place : Place) (item : LineItem) (rest : List LineItem) (told : Told) → Reads all tolds place (item ∷ rest) → IsTold place item told → Reads all (tolds ++ told ∷ []) (place_after place told.said) rest
 reads_more all tolds place item rest told reads is =
     record {
       tells = λ others tells. subst (Tells start all) (sym (one_more tolds others told)) (reads.tells (told ∷ others) (is, tells));

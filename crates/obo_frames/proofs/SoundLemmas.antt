@@ -6,7 +6,7 @@ use Rattle.std.proofs.lemmas.Bool.{and_parts}
 use Rattle.std.proofs.lemmas.List.Elements.{All-cons, All-contains, All-contains_itself, All-head, All-nil, All-tail}
 use Rattle.std.proofs.lemmas.Slice.Eq.{bytes_eq-Decides}
 use Rattle.obo_lexer.specs.Feeding.{begun, fed_with}
-use Rattle.obo_lexer.specs.Held.{HaveLineTexts, has_line_text}
+use Rattle.obo_lexer.specs.LineTexts.{HaveLineTexts, has_line_text}
 use Rattle.obo_lexer.specs.Items.{lines_of}
 use Rattle.obo_lexer.specs.declared.line.LineBody.{LineBody}
 use Rattle.obo_lexer.specs.declared.line.LineBody.TheVariants as body
@@ -27,7 +27,7 @@ use Rattle.obo_frames.specs.Frames.{Entry, id_in, lines_without_id, place_id, pl
 use Rattle.obo_frames.specs.Groups.{short_lines}
 use Rattle.obo_frames.specs.Soundness.{GivesId, HasIdClause, IsBare, IsKept}
 use Rattle.obo_frames.specs.inner.Standing.{behind_clause, behind_line, named, place_first, placed_by_clause, placed_by_line, placed_from}
-use Rattle.obo_frames.specs.Telling.{BodySays, Tells, behind, start}
+use Rattle.obo_frames.specs.Telling.{BodySays, Tells, place_after, start}
 use Rattle.obo_frames.specs.declared.placed.Placed.{Placed}
 use Rattle.obo_frames.specs.declared.standing.Standing.{Standing}
 use Rattle.obo_frames.specs.declared.standing.Standing.TheVariants.{Begun, Header, Nameless, Within}
@@ -172,7 +172,7 @@ Fits Nameless at = Unit {0}
 
 -- it holds of what one line places, and the next line stands where it should
 record HoldsOn (P : Placed → Type 0) (at : Place) (next : Standing) (placed : List Placed) (said : Line) : Type 0 where
-  fits : Fits next (behind at said)
+  fits : Fits next (place_after at said)
   holds : All P placed
 
 one_holds : (P : Placed → Type 0) (one : Placed) → P one → All P (one ∷ [])
@@ -219,7 +219,7 @@ holds_from P all each standing at [] (told ∷ tolds) among fits tells = absurd 
 holds_from P all each standing at (item ∷ items) [] among fits tells = absurd tells
 holds_from P all each standing at (item ∷ items) (told ∷ tolds) among fits tells =
     let on = holds_line P all each standing at item told.line told.said (among item (inl refl)) tells.0.line fits tells.0.says in
-    all_joined P (placed_by_line standing told.line told.said) _ on.holds (holds_from P all each (behind_line standing told.line told.said) (behind at told.said) items tolds (λ one later. among one (inr later)) on.fits tells.1)
+    all_joined P (placed_by_line standing told.line told.said) _ on.holds (holds_from P all each (behind_line standing told.line told.said) (place_after at told.said) items tolds (λ one later. among one (inr later)) on.fits tells.1)
 
 -- what holds of a clause in its place, however it is placed, holds of all that lines place
 pub holds_of_all : (P : Placed → Type 0) (items : List LineItem) (tolds : List Told) → HoldsPlaced P items → Tells start items tolds → All P (placed_of tolds)

@@ -13,7 +13,7 @@ use Rattle.obo_tags.specs.declared.kind.FrameKind.TheVariants as kinds
 use Rattle.obo_tags.specs.declared.kind.ValueShape.{ValueShape}
 use Rattle.obo_tags.specs.declared.kind.ValueShape.TheVariants as shapes
 use Rattle.obo_clause.specs.Grammar.{IsEnding, IsWord, bare as bare_ending, nothing as no_comment, qualified}
-use Rattle.obo_clause.specs.declared.mark.Mark.{Mark}
+use Rattle.obo_clause.specs.declared.mark.MarkedByte.{MarkedByte}
 use Rattle.obo_clause.specs.Marks.{bare, escaped, marks_of}
 use Rattle.obo_clause.specs.Spelled.{IsLine, IsSpelledAs}
 use Rattle.obo_clause.specs.Spelling.{IsQualifiedValue, IsKindName, IsValue, Says, Spells, blank, class, content, definition, frame, id, instance, link, literal, pair, raw, restriction, shape_at, shaped, subset, synonym, synonym_type, term, text, truth, typedef, xref}
@@ -47,11 +47,11 @@ begun_kind kind first line said (content clause spells) begun is header = absurd
 -- ---- values that are one word
 
 -- a value that is one word is a word, in whatever shape and before whatever else
-record IsOneWord (marks : List Mark) (shape : ValueShape) (one : Value) (word : List ℕ) : Type 0 where
+record IsOneWord (marks : List MarkedByte) (shape : ValueShape) (one : Value) (word : List ℕ) : Type 0 where
   is_word : IsWord marks word
-  anywhere : (behind : List Mark) → IsValue behind shape marks one
+  anywhere : (behind : List MarkedByte) → IsValue behind shape marks one
 
-one_word : (behind : List Mark) (shape : ValueShape) (marks : List Mark) (one : Value) → IsValue behind shape marks one → (word : List ℕ) → one ≡ value.Id word → IsOneWord marks shape one word
+one_word : (behind : List MarkedByte) (shape : ValueShape) (marks : List MarkedByte) (one : Value) → IsValue behind shape marks one → (word : List ℕ) → one ≡ value.Id word → IsOneWord marks shape one word
 one_word behind shape marks one (text a b c) word is = absurd (cc)
 one_word behind shape marks one (id a other c) word is =
     let same : other ≡ word = cc in record { is_word = subst (IsWord a) same c; anywhere = λ more. id a other c }
@@ -68,7 +68,7 @@ one_word behind shape marks one (link a b c d e f g h i) word is = absurd (cc)
 one_word behind shape marks one (subset a b c d e f g h) word is = absurd (cc)
 one_word behind shape marks one (synonym_type a b c d e f g h i j k) word is = absurd (cc)
 
-not_raw : (behind : List Mark) (shape : ValueShape) (marks : List Mark) (one : Value) → IsValue behind shape marks one → shape ≡ shapes.Raw → ⊥
+not_raw : (behind : List MarkedByte) (shape : ValueShape) (marks : List MarkedByte) (one : Value) → IsValue behind shape marks one → shape ≡ shapes.Raw → ⊥
 not_raw behind shape marks one (text a b c) is = cc
 not_raw behind shape marks one (id a b c) is = cc
 not_raw behind shape marks one (pair a b c d e f g h i) is = cc
@@ -90,7 +90,7 @@ raw_no_word shape rest one qualifiers (shaped other bytes before marks between e
     not_raw (between ++ ending) other marks it is_value foreign
 
 -- a word has a byte
-word_some : (marks : List Mark) (word : List ℕ) → IsWord marks word → word ≡ [] → ⊥
+word_some : (marks : List MarkedByte) (word : List ℕ) → IsWord marks word → word ≡ [] → ⊥
 word_some marks word is_word none =
     absurd (omega (arith, is_word.some, length-map marks (λ mark. mark.byte), ap length (is_word.read ∙ none)))
 
@@ -122,13 +122,13 @@ foreign_id kind first line clause spells foreign tag word is =
 -- ---- a clause without its qualifiers
 
 -- bytes cut where a bare `{` stands among their marks
-record Cut (bytes : List ℕ) (front : List Mark) : Type 0 where
+record Cut (bytes : List ℕ) (front : List MarkedByte) : Type 0 where
   before : List ℕ
   behind : List ℕ
   whole : bytes ≡ before ++ 123 ∷ behind
   marks : marks_of before ≡ front
 
-no_marks : (front tail : List Mark) → [] ≡ front ++ block_open ∷ tail → ⊥
+no_marks : (front tail : List MarkedByte) → [] ≡ front ++ block_open ∷ tail → ⊥
 no_marks [] tail is = absurd (cc)
 no_marks (mark ∷ front) tail is = absurd (cc)
 
@@ -137,27 +137,27 @@ bare_more : (byte : ℕ) (before : List ℕ) → eqb byte 92 ≡ false → marks
 bare_more byte [] is = refl
 bare_more byte (next ∷ before) is = ap (λ b. cond b (escaped next ∷ marks_of before) (bare byte ∷ marks_of (next ∷ before))) is
 
-heads : (one other : Mark) (ones others : List Mark) → one ∷ ones ≡ other ∷ others → one ≡ other
+heads : (one other : MarkedByte) (ones others : List MarkedByte) → one ∷ ones ≡ other ∷ others → one ≡ other
 heads one other ones others same = cc
 
-tails : (one other : Mark) (ones others : List Mark) → one ∷ ones ≡ other ∷ others → ones ≡ others
+tails : (one other : MarkedByte) (ones others : List MarkedByte) → one ∷ ones ≡ other ∷ others → ones ≡ others
 tails one other ones others same = cc
 
 -- the marks of some bytes can be cut there
 abbrev CanCut : List ℕ → Type 0
-CanCut bytes = (front tail : List Mark) → marks_of bytes ≡ front ++ block_open ∷ tail → Cut bytes front
+CanCut bytes = (front tail : List MarkedByte) → marks_of bytes ≡ front ++ block_open ∷ tail → Cut bytes front
 
 cut_one : (byte : ℕ) → CanCut (byte ∷ [])
 cut_one byte [] tail is =
     let same : bare byte ≡ block_open = heads (bare byte) block_open [] tail is in
-    record { before = []; behind = []; whole = ap (λ (mark : Mark). mark.byte ∷ []) same; marks = refl }
+    record { before = []; behind = []; whole = ap (λ (mark : MarkedByte). mark.byte ∷ []) same; marks = refl }
 cut_one byte (mark ∷ front) tail is =
     absurd (no_marks front tail (tails (bare byte) mark [] (front ++ block_open ∷ tail) is))
 
-cut_more : (escapes : Bool) (byte next : ℕ) (bytes : List ℕ) → eqb byte 92 ≡ escapes → CanCut bytes → CanCut (next ∷ bytes) → (front tail : List Mark) → cond escapes (escaped next ∷ marks_of bytes) (bare byte ∷ marks_of (next ∷ bytes)) ≡ front ++ block_open ∷ tail → Cut (byte ∷ next ∷ bytes) front
+cut_more : (escapes : Bool) (byte next : ℕ) (bytes : List ℕ) → eqb byte 92 ≡ escapes → CanCut bytes → CanCut (next ∷ bytes) → (front tail : List MarkedByte) → cond escapes (escaped next ∷ marks_of bytes) (bare byte ∷ marks_of (next ∷ bytes)) ≡ front ++ block_open ∷ tail → Cut (byte ∷ next ∷ bytes) front
 cut_more true byte next bytes is two one [] tail whole =
     let same : escaped next ≡ block_open = heads (escaped next) block_open (marks_of bytes) tail whole in
-    absurd (false≢true (sym (ap (λ (mark : Mark). mark.is_escaped) same)))
+    absurd (false≢true (sym (ap (λ (mark : MarkedByte). mark.is_escaped) same)))
 cut_more true byte next bytes is two one (mark ∷ front) tail whole =
     let cut = two front tail (tails (escaped next) mark (marks_of bytes) (front ++ block_open ∷ tail) whole) in
     let head = heads (escaped next) mark (marks_of bytes) (front ++ block_open ∷ tail) whole in
@@ -169,7 +169,7 @@ cut_more true byte next bytes is two one (mark ∷ front) tail whole =
     }
 cut_more false byte next bytes is two one [] tail whole =
     let same : bare byte ≡ block_open = heads (bare byte) block_open (marks_of (next ∷ bytes)) tail whole in
-    record { before = []; behind = next ∷ bytes; whole = ap (λ (mark : Mark). mark.byte ∷ next ∷ bytes) same; marks = refl }
+    record { before = []; behind = next ∷ bytes; whole = ap (λ (mark : MarkedByte). mark.byte ∷ next ∷ bytes) same; marks = refl }
 cut_more false byte next bytes is two one (mark ∷ front) tail whole =
     let cut = one front tail (tails (bare byte) mark (marks_of (next ∷ bytes)) (front ++ block_open ∷ tail) whole) in
     let head = heads (bare byte) mark (marks_of (next ∷ bytes)) (front ++ block_open ∷ tail) whole in
@@ -199,11 +199,11 @@ record HasBareFront (shape : ValueShape) (rest : List ℕ) (one : Value) : Type 
   cut_off : IsCutOff behind
 
 -- an ending with qualifiers begins with a `{`
-record BeginsBlock (ending : List Mark) : Type 0 where
-  tail : List Mark
+record BeginsBlock (ending : List MarkedByte) : Type 0 where
+  tail : List MarkedByte
   whole : ending ≡ block_open ∷ tail
 
-how_it_ends : (ending : List Mark) (qualifiers : List Qualifier) → IsEnding ending qualifiers → (qualifiers ≡ []) ⊎ BeginsBlock ending
+how_it_ends : (ending : List MarkedByte) (qualifiers : List Qualifier) → IsEnding ending qualifiers → (qualifiers ≡ []) ⊎ BeginsBlock ending
 how_it_ends ending qualifiers (bare_ending comment is) = inl refl
 how_it_ends ending qualifiers (qualified block blanks comment others is_block a b) =
     inr (record { tail = _; whole = ap (λ marks. (marks ++ blanks) ++ comment) is_block.whole })

@@ -10,7 +10,7 @@ use Rattle.obo_clause.specs.declared.line.Line.{Line}
 use Rattle.obo_clause.specs.declared.line.SyntaxKind.{SyntaxKind}
 use Rattle.obo_frames.specs.Documents.{IsDocument, IsFirstFault, first_fault}
 use Rattle.obo_frames.specs.Frames.{placed_of}
-use Rattle.obo_frames.specs.Telling.{behind, start}
+use Rattle.obo_frames.specs.Telling.{place_after, start}
 use Rattle.obo_frames.specs.declared.fault.DocFault.{DocFault}
 use Rattle.obo_frames.specs.declared.fault.DocFault.TheVariants as fault
 use Rattle.obo_frames.specs.declared.placed.Placed.{Placed}
@@ -42,7 +42,7 @@ and_then (Err one) others = Err one
 abbrev pub lines_answer : Place → List LineItem → Result (List Told) DocFault
 lines_answer place [] = Ok []
 lines_answer place (item ∷ items) =
-    and_then (body_answer place item.number item.body) (λ told. lines_answer (behind place told.said) items)
+    and_then (body_answer place item.number item.body) (λ told. lines_answer (place_after place told.said) items)
 
 -- the document, where no frame is faulty
 abbrev pub unless_faulty : List Placed → Option DocFault → Result (List Placed) DocFault

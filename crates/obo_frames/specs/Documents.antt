@@ -45,8 +45,8 @@ pub data IsFirstFault (limit : ℕ) (bytes : List ℕ) (one : DocFault) : Type 0
   of_frame : (tolds : List Told) → Tells start (lines_of limit bytes) tolds → first_fault tolds ≡ Some one → IsFirstFault limit bytes one
 
 -- a fault that is answered is the first of the file, or want of memory
-abbrev pub IsFaultOf : ℕ → List ℕ → DocFault → Type 0
-IsFaultOf limit bytes one = IsFirstFault limit bytes one ⊎ (one ≡ fault.NoMemory)
+abbrev pub IsFaultOfFile : ℕ → List ℕ → DocFault → Type 0
+IsFaultOfFile limit bytes one = IsFirstFault limit bytes one ⊎ (one ≡ fault.NoMemory)
 
 -- the document of the file is answered, but for want of memory
 abbrev pub AnswersDocument : ℕ → List ℕ → Result (List Placed) DocFault → Type 0

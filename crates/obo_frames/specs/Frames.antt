@@ -58,13 +58,13 @@ abbrev pub id_in : Clause → Option (List ℕ)
 id_in clause = if bytes_eq clause.tag (codes "id") then word_in clause.value else None
 
 -- the id of a frame with these clauses
-abbrev pub id_of : List Entry → Option (List ℕ)
-id_of [] = None
-id_of (entry ∷ entries) = id_in entry.clause
+abbrev pub first_id : List Entry → Option (List ℕ)
+first_id [] = None
+first_id (entry ∷ entries) = id_in entry.clause
 
 -- a clause in its place
-abbrev pub place : FrameKind → List ℕ → Entry → Placed
-place kind id entry = record { frame = kind; id = id; line = entry.line; clause = entry.clause }
+abbrev pub place_entry : FrameKind → List ℕ → Entry → Placed
+place_entry kind id entry = record { frame = kind; id = id; line = entry.line; clause = entry.clause }
 
 -- an `id` clause in its place, without its qualifiers
 abbrev pub place_id : FrameKind → List ℕ → Entry → Placed
@@ -73,15 +73,15 @@ place_id kind id entry = record { frame = kind; id = id; line = entry.line; clau
 -- the clauses of a frame with this id, in their places
 abbrev pub place_all : FrameKind → List ℕ → List Entry → List Placed
 place_all kind id [] = []
-place_all kind id (entry ∷ entries) = place_id kind id entry ∷ map (place kind id) entries
+place_all kind id (entry ∷ entries) = place_id kind id entry ∷ map (place_entry kind id) entries
 
 -- what a frame places: nothing, where it has no id
 abbrev pub placed_in : Frame → List Placed
-placed_in frame = option_map_or (λ id. place_all frame.kind id frame.entries) (id_of frame.entries) []
+placed_in frame = option_map_or (λ id. place_all frame.kind id frame.entries) (first_id frame.entries) []
 
 -- the clauses of the header in their places
 abbrev pub header_of : List Told → List Placed
-header_of tolds = map (place kinds.Header []) (entries_before tolds)
+header_of tolds = map (place_entry kinds.Header []) (entries_before tolds)
 
 -- all clauses of the header and of the frames with an id, in the order of their lines
 abbrev pub placed_of : List Told → List Placed
@@ -89,7 +89,7 @@ placed_of tolds = header_of tolds ++ flat_map placed_in (frames_of tolds)
 
 -- the frame has no id
 abbrev pub lacks_id : Frame → Bool
-lacks_id frame = is_none (id_of frame.entries)
+lacks_id frame = is_none (first_id frame.entries)
 
 -- the lines at which frames without an id begin
 abbrev pub lines_without_id : List Told → List ℕ

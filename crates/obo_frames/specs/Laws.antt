@@ -9,7 +9,7 @@ use Rattle.obo_lexer.specs.declared.line.LineBody.TheVariants as body
 use Rattle.obo_clause.specs.Spelling.{Spells}
 use Rattle.obo_clause.specs.declared.clause.Qualifier.{Qualifier}
 use Rattle.obo_frames.specs.Documents.{IsDocument, IsFirstFault, first_fault}
-use Rattle.obo_frames.specs.Frames.{Frame, frames_of, id_of, placed_of}
+use Rattle.obo_frames.specs.Frames.{Frame, first_id, frames_of, placed_of}
 use Rattle.obo_frames.specs.Framed.{Framed, SameClauses, unlined}
 use Rattle.obo_frames.specs.Groups.{operands_in}
 use Rattle.obo_frames.specs.Naming.{name_of, names_in, space_of}
@@ -59,7 +59,7 @@ IsAlone operands one =
 
 -- a fault of the frames of these lines: a frame without an id, at its frame line, or a clause of a short group, at its line
 pub data FrameFails (tolds : List Told) : DocFault → Type 0 where
-  no_id : (frame : Frame) → Contains (frames_of tolds) frame → id_of frame.entries ≡ None → FrameFails tolds (fault.NoId frame.line)
+  no_id : (frame : Frame) → Contains (frames_of tolds) frame → first_id frame.entries ≡ None → FrameFails tolds (fault.NoId frame.line)
   short_group : (tag : List ℕ) (one : Operand) → IsGroupTag tag → Contains (operands_in tag (space_of (map unlined (placed_of tolds))) (placed_of tolds)) one → IsAlone (operands_in tag (space_of (map unlined (placed_of tolds))) (placed_of tolds)) one → FrameFails tolds (fault.ShortGroup one.line)
 
 -- the line that a fault names

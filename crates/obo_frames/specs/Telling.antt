@@ -20,10 +20,10 @@ abbrev pub start : Place
 start = record { kind = kinds.Header; is_first = true }
 
 -- where a line stands behind one that says this
-abbrev pub behind : Place → Line → Place
-behind place says.Blank = place
-behind place (says.Frame begun) = record { kind = begun; is_first = true }
-behind place (says.Content clause) = record { kind = place.kind; is_first = false }
+abbrev pub place_after : Place → Line → Place
+place_after place says.Blank = place
+place_after place (says.Frame begun) = record { kind = begun; is_first = true }
+place_after place (says.Content clause) = record { kind = place.kind; is_first = false }
 
 -- a line with this body says this where it stands
 abbrev pub BodySays : Place → LineBody → Line → Type 0
@@ -42,7 +42,7 @@ Tells place [] [] = Unit {0}
 Tells place [] (told ∷ tolds) = ⊥
 Tells place (item ∷ items) [] = ⊥
 Tells place (item ∷ items) (told ∷ tolds) =
-    IsTold place item told × Tells (behind place told.said) items tolds
+    IsTold place item told × Tells (place_after place told.said) items tolds
 
 -- this is wrong with a line of this number and body, where it stands
 pub data BodyFails (place : Place) (number : ℕ) : LineBody → DocFault → Type 0 where
@@ -54,4 +54,4 @@ pub data BodyFails (place : Place) (number : ℕ) : LineBody → DocFault → Ty
 abbrev pub FailsFirst : Place → List LineItem → DocFault → Type 0
 FailsFirst place [] one = ⊥
 FailsFirst place (item ∷ items) one =
-    BodyFails place item.number item.body one ⊎ ((said : Line) × BodySays place item.body said × FailsFirst (behind place said) items one)
+    BodyFails place item.number item.body one ⊎ ((said : Line) × BodySays place item.body said × FailsFirst (place_after place said) items one)

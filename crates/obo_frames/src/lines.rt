@@ -6,7 +6,7 @@ ghost use Rattle.obo_frames.specs.inner.Reading.{IsItemFault, IsLineFault, IsRea
 
 use crate::DocFault;
 use crate::standing::{Draft, empty_draft, placed_more};
-use crate::told::{Place, Told, behind, start};
+use crate::told::{Place, Told, place_after, start};
 use clause_reader::read_line;
 use obo_clause::LineFault;
 use obo_lexer::{LineBody, LineFeeder, LineItem};
@@ -24,7 +24,7 @@ pub fn read_lines(alloc: Global, bytes: &[u8], limit: u32) -> Result<Draft, DocF
     let mut draft = empty_draft(alloc);
     while let Some(item) = feeder.take_line() {
         let told = read_item(alloc, place, item)?;
-        place = behind(place, &told.said);
+        place = place_after(place, &told.said);
         draft = placed_more(alloc, draft, told)?;
     }
     Ok(draft)

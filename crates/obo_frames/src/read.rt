@@ -1,7 +1,7 @@
 //! `read_document`: the document of a file, or its first fault.
 ghost use Rattle.std.specs.Prelude.{◌≡◌, ◌^◌, ◌<◌, IfErr, IfOk, length};
 ghost use Rattle.obo_frames.specs.Answer.{AnswersIt};
-ghost use Rattle.obo_frames.specs.Documents.{AnswersDocument, AnswersFault, IsDocument, IsFaultOf, frame_fault};
+ghost use Rattle.obo_frames.specs.Documents.{AnswersDocument, AnswersFault, IsDocument, IsFaultOfFile, frame_fault};
 
 use crate::groups::short_line;
 use crate::lines::read_lines;
@@ -16,7 +16,7 @@ pub fn read_document(alloc: Global, bytes: &[u8], line_limit: u32) -> Result<Doc
     requires { length bytes.now < 2 ^ 32 }
     ensures document { IfOk result (IsDocument line_limit bytes.now) }
     ensures read { AnswersDocument line_limit bytes.now result }
-    ensures fault { IfErr result (IsFaultOf line_limit bytes.now) }
+    ensures fault { IfErr result (IsFaultOfFile line_limit bytes.now) }
     ensures refused { AnswersFault line_limit bytes.now result }
     ensures answer { AnswersIt line_limit bytes.now result }
 {
@@ -27,7 +27,7 @@ pub fn read_document(alloc: Global, bytes: &[u8], line_limit: u32) -> Result<Doc
 fn judged(alloc: Global, bytes: &[u8], line_limit: u32) -> Result<Document, DocFault>
     requires { length bytes.now < 2 ^ 32 }
     ensures document { IfOk result (IsDocument line_limit bytes.now) }
-    ensures fault { IfErr result (IsFaultOf line_limit bytes.now) }
+    ensures fault { IfErr result (IsFaultOfFile line_limit bytes.now) }
 {
     let draft = read_lines(alloc, bytes, line_limit)?;
     let Draft {

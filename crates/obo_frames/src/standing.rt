@@ -175,7 +175,7 @@ fn placed_within(
     clause: Clause,
 ) -> Result<Draft, NoMemory>
     ensures standing { IfOk result (λ next. next.standing ≡ Within kind id) }
-    ensures placed { IfOk result (λ next. next.placed.items ≡ placed.items ++ spec.place kind id (record { line = line; clause = clause }) ∷ []) }
+    ensures placed { IfOk result (λ next. next.placed.items ≡ placed.items ++ spec.place_entry kind id (record { line = line; clause = clause }) ∷ []) }
     ensures lost { IfOk result (λ next. next.lost ≡ lost) }
 {
     match id.copy(alloc) {

@@ -34,8 +34,8 @@ pub fn start() -> Place
 }
 
 /// Where a line stands behind one that says this.
-pub fn behind(place: Place, said: &Line) -> Place
-    ensures { result ≡ spec.behind place said.now }
+pub fn place_after(place: Place, said: &Line) -> Place
+    ensures { result ≡ spec.place_after place said.now }
 {
     match said {
         Line::Blank => place,

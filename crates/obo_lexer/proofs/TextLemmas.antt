@@ -10,7 +10,7 @@ use Rattle.obo_lexer.specs.declared.line.LineBody.{LineBody}
 use Rattle.obo_lexer.specs.declared.line.LineBody.TheVariants.{NotUtf8, Text, TooLong}
 use Rattle.obo_lexer.specs.declared.line.LineItem.{LineItem}
 use Rattle.obo_lexer.specs.Feeding.{Progress, ended_with, fed_with, finished, items_behind, unmarked}
-use Rattle.obo_lexer.specs.Held.{HaveLineTexts, has_line_text}
+use Rattle.obo_lexer.specs.LineTexts.{HaveLineTexts, has_line_text}
 use Rattle.obo_lexer.specs.Items.{HasLineText, body_of}
 use Rattle.rel_io.specs.Texts.{is_line_feed, is_return}
 use Rattle.obo_lexer.specs.Lines.{HasNoLineFeed, byte_order_mark, ended_lines, rest_of, shown, text_of, without_mark, without_return}

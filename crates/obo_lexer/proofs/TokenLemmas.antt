@@ -4,13 +4,13 @@ use Rattle.std.proofs.lemmas.Bool.{cases_lt, eqb-true, false≢true, or_cases}
 use Rattle.obo_lexer.specs.declared.token.Token.{Token}
 use Rattle.obo_lexer.specs.declared.token.TokenKind.{TokenKind}
 use Rattle.obo_lexer.specs.declared.token.TokenKind.TheVariants.{Blank, Escaped, Mark, Plain}
-use Rattle.obo_lexer.specs.Tokens.{CoverIsUnique, Covers, HasExtent, IsRun, blank_at, continuation_at, escapes_at, is_blank, is_mark, mark_at, plain_at}
+use Rattle.obo_lexer.specs.Tokens.{CoverIsUnique, Covers, HasExtent, IsLongestRun, blank_at, continuation_at, escapes_at, is_blank, is_mark, mark_at, plain_at}
 
-run-not_longer : (test : ℕ → Bool) (line : List ℕ) (from to other : ℕ) → IsRun test line from to → IsRun test line from other → to < other → ⊥
+run-not_longer : (test : ℕ → Bool) (line : List ℕ) (from to other : ℕ) → IsLongestRun test line from to → IsLongestRun test line from other → to < other → ⊥
 run-not_longer test line from to other a b less =
     false≢true (sym (a.stops (let w = b.within in omega arith)) ∙ b.each to a.ordered less)
 
-run-unique : (test : ℕ → Bool) (line : List ℕ) (from to other : ℕ) → IsRun test line from to → IsRun test line from other → to ≡ other
+run-unique : (test : ℕ → Bool) (line : List ℕ) (from to other : ℕ) → IsLongestRun test line from to → IsLongestRun test line from other → to ≡ other
 run-unique test line from to other a b =
     ⊎_elim (λ less. absurd (run-not_longer test line from to other a b less)) (λ le. ⊎_elim (λ more. absurd (run-not_longer test line from other to b a more)) (λ ge. omega arith) (cases_lt other to)) (cases_lt to other)
 

@@ -1,6 +1,7 @@
 pub mod Feeding
-pub mod Held
 pub mod Items
 pub mod Laws
+pub mod LineTexts
 pub mod Lines
 pub mod Tokens
+pub mod inner

@@ -36,7 +36,7 @@ abbrev pub plain_at : List ℕ → ℕ → Bool
 plain_at line place = not (blank_at line place || mark_at line place || escapes_at line place)
 
 -- from one place up to another the test holds, and there it ends: at the line's end, or where the test fails
-pub record IsRun (test : ℕ → Bool) (line : List ℕ) (from to : ℕ) : Type 0 where
+pub record IsLongestRun (test : ℕ → Bool) (line : List ℕ) (from to : ℕ) : Type 0 where
   pub ordered : from ≤ to
   pub within : to ≤ length line
   pub each : (place : ℕ) → from ≤ place → place < to → IsTrue (test place)
@@ -45,10 +45,10 @@ pub record IsRun (test : ℕ → Bool) (line : List ℕ) (from to : ℕ) : Type 
 -- the bytes of a token of each kind. An escaped character is its first byte, behind the backslash, and the
 -- longest run of its other bytes
 abbrev pub HasExtent : TokenKind → List ℕ → ℕ → ℕ → Type 0
-HasExtent Blank line from to = IsTrue (blank_at line from) × IsRun (blank_at line) line from to
-HasExtent Plain line from to = IsTrue (plain_at line from) × IsRun (plain_at line) line from to
+HasExtent Blank line from to = IsTrue (blank_at line from) × IsLongestRun (blank_at line) line from to
+HasExtent Plain line from to = IsTrue (plain_at line from) × IsLongestRun (plain_at line) line from to
 HasExtent Mark line from to = IsTrue (mark_at line from) × (to ≡ from + 1)
-HasExtent Escaped line from to = IsTrue (escapes_at line from) × IsRun (continuation_at line) line (from + 2) to
+HasExtent Escaped line from to = IsTrue (escapes_at line from) × IsLongestRun (continuation_at line) line (from + 2) to
 
 -- the tokens cover the line from a place on, in order and without a gap
 abbrev pub Covers : List ℕ → ℕ → List Token → Type 0

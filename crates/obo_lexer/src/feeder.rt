@@ -29,7 +29,7 @@ struct Lines {
 
 impl Lines {
     ghost use Rattle.obo_lexer.specs.Feeding.{begun, ended_with, fed_with, finished};
-    ghost use Rattle.obo_lexer.specs.Held.{progress_of};
+    ghost use Rattle.obo_lexer.specs.inner.Held.{progress_of};
     ghost use Rattle.obo_lexer.specs.Lines.{HasNoLineFeed};
 
     /// The bytes of the piece come, and each line that it ends waits from now on.
@@ -134,7 +134,7 @@ pub struct LineFeeder {
 
 impl Model for LineFeeder {
     ghost use Rattle.obo_lexer.specs.Feeding.{Feeder};
-    ghost use Rattle.obo_lexer.specs.Held.{IsSound, progress_of};
+    ghost use Rattle.obo_lexer.specs.inner.Held.{IsSound, progress_of};
 
     ghost Value = { Feeder };
 

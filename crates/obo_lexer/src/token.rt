@@ -1,6 +1,6 @@
 //! The tokens of a line: blanks, marks, escaped characters and the plain text between them.
 ghost use Rattle.std.specs.Prelude.{◌≡◌, ◌+◌, ◌^◌, ◌<◌, ◌≤◌, IfOk, length};
-ghost use Rattle.obo_lexer.specs.Tokens.{Covers, HasExtent, IsRun, blank_at, continuation_at, escapes_at, is_blank, is_continuation, is_mark, plain_at};
+ghost use Rattle.obo_lexer.specs.Tokens.{Covers, HasExtent, IsLongestRun, blank_at, continuation_at, escapes_at, is_blank, is_continuation, is_mark, plain_at};
 
 use rel_io::{Bytes, Dup, NoMemory};
 use std::alloc::Global;
@@ -85,7 +85,7 @@ fn token_at(line: &[u8], place: usize) -> Token
 /// Where the run of blanks from the place on ends.
 fn blank_end(line: &[u8], place: usize) -> usize
     requires { place ≤ length line.now }
-    ensures { IsRun (blank_at line.now) line.now place result }
+    ensures { IsLongestRun (blank_at line.now) line.now place result }
 {
     let mut end = place;
     while end < line.len() && is_blank(line[end]) {
@@ -97,7 +97,7 @@ fn blank_end(line: &[u8], place: usize) -> usize
 /// Where the run of plain bytes from the place on ends.
 fn plain_end(line: &[u8], place: usize) -> usize
     requires { place ≤ length line.now }
-    ensures { IsRun (plain_at line.now) line.now place result }
+    ensures { IsLongestRun (plain_at line.now) line.now place result }
 {
     let mut end = place;
     while end < line.len() && plain_at(line, end) {
@@ -109,7 +109,7 @@ fn plain_end(line: &[u8], place: usize) -> usize
 /// Where a character ends of which the first byte stands directly before the place.
 fn character_end(line: &[u8], place: usize) -> usize
     requires { place ≤ length line.now }
-    ensures { IsRun (continuation_at line.now) line.now place result }
+    ensures { IsLongestRun (continuation_at line.now) line.now place result }
 {
     let mut end = place;
     while end < line.len() && is_continuation(line[end]) {

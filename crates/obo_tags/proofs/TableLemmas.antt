@@ -12,7 +12,7 @@ use Rattle.std.proofs.lemmas.Slice.Eq.{bytes_eq-Decides}
 use Rattle.std.proofs.lemmas.List.{get_or-map, length-map}
 use Rattle.obo_tags.specs.declared.kind.FrameKind.{FrameKind}
 use Rattle.obo_tags.specs.declared.kind.ValueShape.TheVariants.{Raw}
-use Rattle.obo_tags.specs.Rows.{AreRows, Row, row_tags, rows-counted, tag_at}
+use Rattle.obo_tags.specs.inner.Rows.{AreRows, Row, row_tags, rows-counted, tag_at}
 use Rattle.obo_tags.specs.Table.{every_tag, is_among, is_known, place_of, shape_behind, shape_of, tags_of}
 
 pub known-told : list_all is_known row_tags ≡ true

@@ -1,4 +1,4 @@
 pub mod Laws
-pub mod Rows
 pub mod Table
 pub mod Tags
+pub mod inner

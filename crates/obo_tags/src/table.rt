@@ -1,6 +1,6 @@
 //! The one table of the tags.
 ghost use Rattle.std.specs.Prelude.{◌≡◌, length};
-ghost use Rattle.obo_tags.specs.Rows.{AreRows};
+ghost use Rattle.obo_tags.specs.inner.Rows.{AreRows};
 
 use crate::ValueShape;
 use crate::ValueShape::{

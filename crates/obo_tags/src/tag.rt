@@ -23,7 +23,7 @@ pub struct Tag {
 impl Model for Tag {
     ghost use Rattle.std.specs.Prelude.{◌<◌, List, ℕ};
     ghost use Rattle.std.proofs.Common.{ap};
-    ghost use Rattle.obo_tags.specs.Rows.{row_of, row_of-tag_at, tag_at};
+    ghost use Rattle.obo_tags.specs.inner.Rows.{row_of, row_of-tag_at, tag_at};
 
     ghost Value = { List ℕ };
 

@@ -14,7 +14,7 @@ use Rattle.obo_clause.specs.declared.line.Line.{Line}
 use Rattle.obo_clause.specs.Spelled.{IsLine}
 use Rattle.obo_clause.specs.Spelling.{Says}
 use Rattle.obo_frames.specs.inner.Standing.{lost_at_end, lost_from, placed_from}
-use Rattle.obo_frames.specs.Telling.{Tells, behind}
+use Rattle.obo_frames.specs.Telling.{Tells, place_after}
 use Rattle.obo_frames.specs.declared.standing.Standing.{Standing}
 use Rattle.obo_frames.specs.declared.standing.Standing.TheVariants.{Header, Within}
 use Rattle.obo_frames.specs.declared.told.Place.{Place}
@@ -41,7 +41,7 @@ abbrev pub AllSay : Place → List (List ℕ) → List Line → Type 0
 AllSay place [] [] = Unit {0}
 AllSay place [] (said ∷ saids) = ⊥
 AllSay place (line ∷ lines) [] = ⊥
-AllSay place (line ∷ lines) (said ∷ saids) = IsRow place line said × AllSay (behind place said) lines saids
+AllSay place (line ∷ lines) (said ∷ saids) = IsRow place line said × AllSay (place_after place said) lines saids
 
 abbrev pub told_from : ℕ → List Line → List Told
 told_from number [] = []
@@ -52,7 +52,7 @@ tells_all place number [] [] all = tt
 tells_all place number [] (said ∷ saids) all = absurd all
 tells_all place number (line ∷ lines) [] all = absurd all
 tells_all place number (line ∷ lines) (said ∷ saids) all =
-    (record { line = refl; says = all.0.says }, tells_all (behind place said) (number + 1) lines saids all.1)
+    (record { line = refl; says = all.0.says }, tells_all (place_after place said) (number + 1) lines saids all.1)
 
 pub line_texts : (limit : ℕ) (place : Place) (lines : List (List ℕ)) (saids : List Line) → AllSay place lines saids → All (λ line. length line ≤ limit) lines → All (IsLineText limit) lines
 line_texts limit place [] [] all fit = All-nil (IsLineText limit)
@@ -61,7 +61,7 @@ line_texts limit place (line ∷ lines) [] all fit = absurd all
 line_texts limit place (line ∷ lines) (said ∷ saids) all fit =
     All-cons (IsLineText limit) line lines
     (record { utf8 = all.0.is_line.utf8; within = All-head (λ (l : List ℕ). length l ≤ limit) line lines fit; no_line_feed = all.0.is_line.no_line_feed; no_return = all.0.is_line.no_return })
-    (line_texts limit (behind place said) lines saids all.1 (All-tail (λ (l : List ℕ). length l ≤ limit) line lines fit))
+    (line_texts limit (place_after place said) lines saids all.1 (All-tail (λ (l : List ℕ). length l ≤ limit) line lines fit))
 
 first_unmarked : (line rest : List ℕ) → is_marked line ≡ false → starts_with nat_eq (line ++ 10 ∷ rest) byte_order_mark ≡ false
 first_unmarked [] rest h = refl

@@ -6,7 +6,7 @@ use Rattle.std.specs.FinMap.{FinMap, find, from_entries_push, get, get-from_entr
 use Rattle.std.specs.List.{position_from}
 use Rattle.std.specs.Ordering.{eq_by_cmp, nat_cmp}
 use Rattle.std.proofs.lemmas.Cmp.{nat_list_cmp_total, nat_list_eq_equiv}
-use Rattle.rel_io.specs.FileList.{IsAbsent, IsFoundAt, bytes_at, name_at, place_of}
+use Rattle.rel_io.specs.inner.Finding.{IsAbsent, IsFoundAt, bytes_at, name_at, place_of}
 
 abbrev File : Type 0
 File = List ℕ × List ℕ

@@ -9,3 +9,4 @@ pub mod MemSink
 pub mod Sink
 pub mod Texts
 pub mod formers
+pub mod inner

@@ -3,7 +3,8 @@ ghost use Rattle.std.specs.Prelude.{◌≡◌, ◌↔◌, ◌++◌, ◌<◌, ◌
 ghost use Rattle.std.specs.FinMap.{get, insert};
 ghost use Rattle.std.specs.List.{list_any};
 ghost use Rattle.std.specs.Option.{option_copied};
-ghost use Rattle.rel_io.specs.FileList.{IsAbsent, IsFoundAt, bytes_at, files_of, place_of};
+ghost use Rattle.rel_io.specs.FileList.{files_of};
+ghost use Rattle.rel_io.specs.inner.Finding.{IsAbsent, IsFoundAt, bytes_at, place_of};
 ghost use Rattle.rel_io.specs.Folder.{Opens, Puts, Reads};
 ghost use Rattle.rel_io.specs.FolderState.{NoCountFell};
 ghost use Rattle.rel_io.specs.MemFolder.{after_failed_put, after_open, after_put, after_put_without_memory, after_read, fails, folder_of, open_answer, read_answer, read_bytes};
@@ -30,7 +31,8 @@ impl Model for MemFolder {
     ghost use Rattle.std.specs.Prelude.{◌≤◌};
     ghost use Rattle.std.specs.Option.{ForSome};
     ghost use Rattle.rel_io.specs.Codes.{mem_folder_code};
-    ghost use Rattle.rel_io.specs.FileList.{IsOpenAt, files_of, position_at};
+    ghost use Rattle.rel_io.specs.FileList.{files_of};
+    ghost use Rattle.rel_io.specs.inner.Finding.{IsOpenAt, position_at};
     ghost use Rattle.rel_io.specs.MemFolder.{MemFolderState};
 
     ghost Value = { MemFolderState };

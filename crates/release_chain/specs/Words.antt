@@ -13,16 +13,16 @@ abbrev pub Word : Type 0
 Word = List ℕ
 
 -- what may stand at a place of the chain
-pub data Place : Type 0 where
+pub data ExpectedWord : Type 0 where
   -- this word alone
-  Fixed : Word → Place
+  Fixed : Word → ExpectedWord
   -- the name of the input
-  InputName : Place
+  InputName : ExpectedWord
   -- the name of the output
-  OutputName : Place
+  OutputName : ExpectedWord
 
 -- merge --input A convert --output B
-abbrev pub form : List Place
+abbrev pub form : List ExpectedWord
 form =
     Fixed (codes "merge") ∷ Fixed (codes "--input") ∷ InputName ∷ Fixed (codes "convert") ∷ Fixed (codes "--output") ∷ OutputName
     ∷ []
@@ -39,7 +39,7 @@ is_same = pointwise nat_eq
 
 -- why a word may not stand at a place, where the input has this name: a name is not empty, and that of the output
 -- ends in .obo and is not that of the input
-abbrev pub misfit : Word → Place → Word → Option WordKind
+abbrev pub misfit : Word → ExpectedWord → Word → Option WordKind
 misfit input (Fixed text) word = if is_same word text then None else Some UnknownWord
 misfit input InputName word = if length word == 0 then Some BadValue else None
 misfit input OutputName word =
@@ -49,12 +49,12 @@ misfit input OutputName word =
     else Some NoFormat
 
 -- the same of a word that may not be there
-abbrev pub misfit_of : Word → Place → Option Word → Option WordKind
+abbrev pub misfit_of : Word → ExpectedWord → Option Word → Option WordKind
 misfit_of input place None = Some NoValue
 misfit_of input place (Some word) = misfit input place word
 
 -- why the words depart from the chain at a place, if they do
-unfoldable pub misfit_at : List Word → Place → ℕ → Option WordKind
+unfoldable pub misfit_at : List Word → ExpectedWord → ℕ → Option WordKind
 misfit_at words place index = misfit_of (input_of words) place (slice_get words index)
 
 -- the word at an index if it is wrong, and else what comes of the words behind it
@@ -63,7 +63,7 @@ or_later None index later = later
 or_later (Some kind) index later = Some (record { index = index; kind = kind })
 
 -- the first word that departs from these places, which begin at an index; behind the last place no word may stand
-abbrev pub first_wrong : List Word → List Place → ℕ → Option WrongWord
+abbrev pub first_wrong : List Word → List ExpectedWord → ℕ → Option WrongWord
 first_wrong words [] index = if nat_le (length words) index then None else Some (record { index = index; kind = UnknownWord })
 first_wrong words (place ∷ places) index = or_later (misfit_at words place index) index (first_wrong words places (index + 1))
 

@@ -4,7 +4,7 @@ ghost use Rattle.std.specs.Prelude.{◌≡◌, ◌∷◌, [], MatchResult, Some,
 ghost use Rattle.std.specs.Option.{option_copied};
 ghost use Rattle.std.specs.String.{string_bytes};
 ghost use Rattle.release_chain.specs.Ending.{RefusesWords};
-ghost use Rattle.release_chain.specs.Words.{Fixed, InputName, OutputName, Place, chain, first_wrong, input_of, misfit_at, output_of};
+ghost use Rattle.release_chain.specs.Words.{ExpectedWord, Fixed, InputName, OutputName, chain, first_wrong, input_of, misfit_at, output_of};
 
 use crate::{Fault, WordKind};
 use rel_io::Bytes;
@@ -60,7 +60,7 @@ fn find_paths(words: &[String]) -> Result<(&[u8], &[u8]), WrongWord>
 fn expect_word(words: &[String], index: u32, text: &str) -> Result<(), WrongWord>
     ensures { MatchResult result
         (λ _. misfit_at (map string_bytes words.now) (Fixed text.now) index ≡ None)
-        (λ wrong. (places : List Place) → first_wrong (map string_bytes words.now) (Fixed text.now ∷ places) index ≡ Some wrong) }
+        (λ wrong. (places : List ExpectedWord) → first_wrong (map string_bytes words.now) (Fixed text.now ∷ places) index ≡ Some wrong) }
 {
     let Some(word) = word_at(words, index as usize) else {
         return Err(wrong(index, WordKind::NoValue));
@@ -76,7 +76,7 @@ fn expect_word(words: &[String], index: u32, text: &str) -> Result<(), WrongWord
 fn input_name(words: &[String]) -> Result<&[u8], WrongWord>
     ensures { MatchResult result
         (λ name. (misfit_at (map string_bytes words.now) InputName 2 ≡ None) × (name.now ≡ input_of (map string_bytes words.now)))
-        (λ wrong. (places : List Place) → first_wrong (map string_bytes words.now) (InputName ∷ places) 2 ≡ Some wrong) }
+        (λ wrong. (places : List ExpectedWord) → first_wrong (map string_bytes words.now) (InputName ∷ places) 2 ≡ Some wrong) }
 {
     let Some(name) = word_at(words, 2) else {
         return Err(wrong(2, WordKind::NoValue));
@@ -93,7 +93,7 @@ fn output_name<'a>(words: &'a [String], input: &[u8]) -> Result<&'a [u8], WrongW
     requires { input.now ≡ input_of (map string_bytes words.now) }
     ensures { MatchResult result
         (λ name. (misfit_at (map string_bytes words.now) OutputName 5 ≡ None) × (name.now ≡ output_of (map string_bytes words.now)))
-        (λ wrong. (places : List Place) → first_wrong (map string_bytes words.now) (OutputName ∷ places) 5 ≡ Some wrong) }
+        (λ wrong. (places : List ExpectedWord) → first_wrong (map string_bytes words.now) (OutputName ∷ places) 5 ≡ Some wrong) }
 {
     let Some(name) = word_at(words, 5) else {
         return Err(wrong(5, WordKind::NoValue));

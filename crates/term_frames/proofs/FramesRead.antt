@@ -7,7 +7,7 @@ use Rattle.std.proofs.lemmas.Bool.{and_parts, false≢true}
 use Rattle.std.proofs.lemmas.Bool.Decides.{nat_tests}
 use Rattle.iri_map.specs.Id.{is_canonical_id}
 use Rattle.term_frames.specs.Built.{any_has, begins_frame, first_unbuilt, is_built, is_in_frame, is_of_frame, is_of_header, is_taken, of_frame, unbuilt_line}
-use Rattle.term_frames.specs.Clauses.{Placed, clause, clause_in, frame_at, placed_at, placed_from}
+use Rattle.term_frames.specs.Clauses.{NumberedClause, clause, clause_in, frame_at, placed_at, placed_from}
 use Rattle.term_frames.specs.Forms.{id_in, is_frame_line, is_printable, name_in, ontology_in, parent_in}
 use Rattle.term_frames.specs.Lines.{Line}
 use Rattle.term_frames.specs.declared.clause.Clause.{Clause}
@@ -17,7 +17,7 @@ use Rattle.term_frames.proofs.FrameLists.{Frames, id_first, name_first, no_more,
 
 -- the clauses alone
 abbrev pub clauses_from : List ℕ → ℕ → List Line → List Clause
-clauses_from frame number lines = map (λ (placed : Placed). placed.clause) (placed_from frame number lines)
+clauses_from frame number lines = map (λ (placed : NumberedClause). placed.clause) (placed_from frame number lines)
 
 -- behind these lines, the nearest first, a frame has begun and has its id, and it has a name or not
 pub record InFrame (earlier : List Line) (is_named : Bool) : Type 0 where
@@ -77,11 +77,11 @@ built earlier number line later none =
 
 nothing_said : (frame : List ℕ) (number : ℕ) (line : Line) (later : List Line) → SaysNothing line → clauses_from frame number (line ∷ later) ≡ clauses_from frame (number + 1) later
 nothing_said frame number line later says =
-    λ i. map (λ (placed : Placed). placed.clause) (placed_at number (says.clause frame i) ++ placed_from (unwrap_or (says.no_id i) frame) (number + 1) later)
+    λ i. map (λ (placed : NumberedClause). placed.clause) (placed_at number (says.clause frame i) ++ placed_from (unwrap_or (says.no_id i) frame) (number + 1) later)
 
 clause_said : (frame next : List ℕ) (number : ℕ) (line : Line) (later : List Line) (one : Clause) → clause_in frame line ≡ Some one → frame_at frame line ≡ next → clauses_from frame number (line ∷ later) ≡ one ∷ clauses_from next (number + 1) later
 clause_said frame next number line later one said goes =
-    λ i. map (λ (placed : Placed). placed.clause) (placed_at number (said i) ++ placed_from (goes i) (number + 1) later)
+    λ i. map (λ (placed : NumberedClause). placed.clause) (placed_at number (said i) ++ placed_from (goes i) (number + 1) later)
 
 ids_stay : (line : Line) (earlier : List Line) → id_in line ≡ None → filter_map id_in (line ∷ earlier) ≡ filter_map id_in earlier
 ids_stay line earlier none = λ i. cons_option (none i) (filter_map id_in earlier)

@@ -16,7 +16,7 @@ use Rattle.iri_map.specs.Id.{colon, is_canonical_id, is_word_byte}
 use Rattle.iri_map.proofs.FormLemmas.{prefix_bytes}
 use Rattle.iri_map.proofs.SplitLemmas.{IsOther, split_at_first-none, split_at_first-parts}
 use Rattle.term_frames.specs.Built.{begins_frame, first_unbuilt, is_built}
-use Rattle.term_frames.specs.Clauses.{Placed, clause, clause_in, frame_at, placed_at, placed_from}
+use Rattle.term_frames.specs.Clauses.{NumberedClause, clause, clause_in, frame_at, placed_at, placed_from}
 use Rattle.term_frames.specs.Forms.{before_comment, id_in, is_frame_line, is_name, is_name_or_space, is_printable, name_in, only_if, parent_in, target_of, value_behind}
 use Rattle.term_frames.specs.Lines.{Line}
 use Rattle.term_frames.specs.Text.{comment, lines_of_clause, name_of}
@@ -126,11 +126,11 @@ ids_behind earlier id canonical = λ i. cons_option (id_read id canonical i) (co
 
 nothing_said : (frame : List ℕ) (number : ℕ) (line : Line) (later : List Line) → SaysNothing line → clauses_from frame number (line ∷ later) ≡ clauses_from frame (number + 1) later
 nothing_said frame number line later says =
-    λ i. map (λ (placed : Placed). placed.clause) (placed_at number (says.clause frame i) ++ placed_from (unwrap_or (says.no_id i) frame) (number + 1) later)
+    λ i. map (λ (placed : NumberedClause). placed.clause) (placed_at number (says.clause frame i) ++ placed_from (unwrap_or (says.no_id i) frame) (number + 1) later)
 
 clause_said : (frame next : List ℕ) (number : ℕ) (line : Line) (later : List Line) (one : Clause) → clause_in frame line ≡ Some one → frame_at frame line ≡ next → clauses_from frame number (line ∷ later) ≡ one ∷ clauses_from next (number + 1) later
 clause_said frame next number line later one said goes =
-    λ i. map (λ (placed : Placed). placed.clause) (placed_at number (said i) ++ placed_from (goes i) (number + 1) later)
+    λ i. map (λ (placed : NumberedClause). placed.clause) (placed_at number (said i) ++ placed_from (goes i) (number + 1) later)
 
 -- an empty line, a frame line and the id of a new frame
 id_written : (earlier : List Line) (number : ℕ) (frame id : List ℕ) (later : List Line) (clauses : List Clause) → is_canonical_id id ≡ true → list_any (bytes_eq id) (filter_map id_in earlier) ≡ false

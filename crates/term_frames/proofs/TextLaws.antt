@@ -15,7 +15,7 @@ use Rattle.owl_ontology.specs.Ontology.{IsHeld, OntologyState, axioms_of}
 use Rattle.owl_axioms.specs.Vocabulary.{rdfs_label}
 use Rattle.owl_axioms.specs.declared.body.Axiom.{Axiom}
 use Rattle.term_frames.specs.Built.{first_unbuilt, is_built, unbuilt_line}
-use Rattle.term_frames.specs.Clauses.{Placed, clause, clauses_of_file, first_named, header_of, ontology_name}
+use Rattle.term_frames.specs.Clauses.{NumberedClause, clause, clauses_of_file, first_named, header_of, ontology_name}
 use Rattle.term_frames.specs.Forms.{id_in, is_format_version, is_frame_line, is_name_byte, is_ontology_name, is_printable, ontology_in, parent_in, value_behind}
 use Rattle.owl_ontology.specs.Same.{SaysTheSame}
 use Rattle.term_frames.specs.Laws.{AxiomsAreSaid, TextIsOfSet, TextReadsBack}
@@ -131,7 +131,7 @@ clause_of-axiom_of space one facts =
 
 -- ---- the axioms of a file are those of its clauses
 
-axioms_of-entries : (space : List ℕ) (placed : List Placed) → axioms_of (map (entry_of_clause space) placed) ≡ map (axiom_of space) (map (λ (one : Placed). one.clause) placed)
+axioms_of-entries : (space : List ℕ) (placed : List NumberedClause) → axioms_of (map (entry_of_clause space) placed) ≡ map (axiom_of space) (map (λ (one : NumberedClause). one.clause) placed)
 axioms_of-entries space [] = refl
 axioms_of-entries space (one ∷ placed) = ap (λ axioms. axiom_of space one.clause ∷ axioms) (axioms_of-entries space placed)
 
@@ -158,11 +158,11 @@ axioms_are_said bytes a =
     let lines = lines_of bytes in (
       (λ held.
           let said = held_by_file lines a held in
-          let from = image (λ (placed : Placed). placed.clause) (clauses_of_file lines) said.x said.here in
+          let from = image (λ (placed : NumberedClause). placed.clause) (clauses_of_file lines) said.x said.here in
           record { placed = from.x; is_one = from.here; says = sym said.is ∙ ap (axiom_of (space_of lines)) (sym from.is) }),
       (λ said.
           subst (λ x. IsHeld x (ontology_of lines).entries) (sym said.says)
-          (file_holds lines said.placed.clause (mapped (λ (placed : Placed). placed.clause) (clauses_of_file lines) said.placed said.is_one))),
+          (file_holds lines said.placed.clause (mapped (λ (placed : NumberedClause). placed.clause) (clauses_of_file lines) said.placed said.is_one))),
     )
 
 -- the sorted clauses of a file's axioms are the clauses of the file

@@ -23,22 +23,22 @@ abbrev pub frame_at : List ℕ → Line → List ℕ
 frame_at frame line = unwrap_or (id_in line) frame
 
 -- a clause and the number of its line
-pub record Placed : Type 0 where
+pub record NumberedClause : Type 0 where
   pub clause : Clause
   pub line : ℕ
 
-abbrev pub placed_at : ℕ → Option Clause → List Placed
+abbrev pub placed_at : ℕ → Option Clause → List NumberedClause
 placed_at number None = []
 placed_at number (Some one) = record { clause = one; line = number } ∷ []
 
 -- the clauses of lines, where the first has this number and stands in the frame with this id
-abbrev pub placed_from : List ℕ → ℕ → List Line → List Placed
+abbrev pub placed_from : List ℕ → ℕ → List Line → List NumberedClause
 placed_from frame number [] = []
 placed_from frame number (line ∷ lines) =
     placed_at number (clause_in frame line) ++ placed_from (frame_at frame line) (number + 1) lines
 
 -- the clauses of a file
-abbrev pub clauses_of_file : List Line → List Placed
+abbrev pub clauses_of_file : List Line → List NumberedClause
 clauses_of_file lines = placed_from [] 1 lines
 
 -- the lines before the first frame line

@@ -5,7 +5,7 @@ use Rattle.owl_ontology.specs.Ontology.{IsHeld, OntologyState}
 use Rattle.owl_ontology.specs.Same.{SaysTheSame}
 use Rattle.owl_axioms.specs.declared.body.Axiom.{Axiom}
 use Rattle.term_frames.specs.Built.{is_built, unbuilt_line}
-use Rattle.term_frames.specs.Clauses.{Placed, clauses_of_file, ontology_name}
+use Rattle.term_frames.specs.Clauses.{NumberedClause, clauses_of_file, ontology_name}
 use Rattle.term_frames.specs.Lines.{Line, ended, lines_of}
 use Rattle.term_frames.specs.Mapping.{axiom_of, ontology_of}
 use Rattle.term_frames.specs.Text.{obo_text}
@@ -36,7 +36,7 @@ LinesAreWritten bytes = ended (lines_of (bytes ++ 10 ∷ [])) ≡ bytes ++ 10 �
 
 -- a clause of the file says this axiom
 pub record IsSaid (lines : List Line) (a : Axiom) : Type 0 where
-  pub placed : Placed
+  pub placed : NumberedClause
   pub is_one : Contains (clauses_of_file lines) placed
   pub says : a ≡ axiom_of (name_or_temp (ontology_name lines)) placed.clause
 

@@ -17,7 +17,7 @@ use Rattle.owl_axioms.specs.declared.expr.ClassExpr.TheVariants as expr
 use Rattle.owl_axioms.specs.declared.name.Kind.{Kind}
 use Rattle.owl_axioms.specs.declared.name.Kind.TheVariants.{Class}
 use Rattle.owl_axioms.specs.declared.name.Name as entity
-use Rattle.term_frames.specs.Clauses.{Placed, clause, clauses_of_file, ontology_name}
+use Rattle.term_frames.specs.Clauses.{NumberedClause, clause, clauses_of_file, ontology_name}
 use Rattle.term_frames.specs.Lines.{Line}
 use Rattle.term_frames.specs.declared.clause.Clause.{Clause}
 use Rattle.term_frames.specs.declared.clause.Tag.{Tag}
@@ -40,7 +40,7 @@ unfoldable pub axiom_of : List ℕ → Clause → Axiom
 axiom_of space one = record { body = body_of space one.tag one.frame one.value; sides = [] }
 
 -- the axiom of a placed clause, with its origin in the one file
-abbrev pub entry_of_clause : List ℕ → Placed → Entry
+abbrev pub entry_of_clause : List ℕ → NumberedClause → Entry
 entry_of_clause space placed =
     record { «axiom» = axiom_of space placed.clause; origin = record { file = 0; line = placed.line } }
 

@@ -29,7 +29,7 @@ struct Header<'a> {
 
 /// A place in a frame, behind its id.
 #[derive(Clone, Copy)]
-struct Place<'a> {
+struct FrameCursor<'a> {
     /// The id of the frame.
     frame: &'a [u8],
     /// Whether the frame has a name already.
@@ -138,7 +138,7 @@ fn begin_frame<'a>(
     space: &Bytes,
     number: u32,
     later: &'a [u8],
-) -> Result<Place<'a>, TermsFault>
+) -> Result<FrameCursor<'a>, TermsFault>
     requires { number + length later.now < 2 ^ 32 - 1 }
     ensures read { (lines earlier : List Line) (frame : List ℕ) (line : Line) → is_frame_line line ≡ true → Read space.now lines earlier ontology.old.entries frame number (line ∷ lines_of later.now) → MatchResult result
         (λ place. ReadInFrame space.now lines ontology.new.entries place.frame.now place.is_named place.number (lines_of place.rest.now))
@@ -158,7 +158,7 @@ fn begin_frame<'a>(
     if !ontology.add(one, origin(number + 1))? {
         return Err(TermsFault::LineNotBuilt { line: number });
     }
-    Ok(Place {
+    Ok(FrameCursor {
         frame: id,
         is_named: false,
         number: number + 2,
@@ -171,8 +171,8 @@ fn read_turn<'a>(
     alloc: Global,
     ontology: &mut Ontology,
     space: &Bytes,
-    place: Place<'a>,
-) -> Result<Place<'a>, TermsFault>
+    place: FrameCursor<'a>,
+) -> Result<FrameCursor<'a>, TermsFault>
     requires more { 0 < length place.rest.now }
     requires counted { place.number + length place.rest.now < 2 ^ 32 }
     requires frame { IsTrue (is_canonical_id place.frame.now) }
@@ -188,7 +188,7 @@ fn read_turn<'a>(
         return begin_frame(alloc, ontology, space, place.number, later);
     }
     let is_named = read_frame_line(alloc, ontology, space, place, line)?;
-    Ok(Place {
+    Ok(FrameCursor {
         frame: place.frame,
         is_named,
         number: place.number + 1,
@@ -201,7 +201,7 @@ fn read_frame_line(
     alloc: Global,
     ontology: &mut Ontology,
     space: &Bytes,
-    place: Place<'_>,
+    place: FrameCursor<'_>,
     line: &[u8],
 ) -> Result<bool, TermsFault>
     requires { IsTrue (is_canonical_id place.frame.now) }

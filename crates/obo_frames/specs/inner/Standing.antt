@@ -6,7 +6,7 @@ use Rattle.obo_tags.specs.declared.kind.FrameKind.TheVariants as kinds
 use Rattle.obo_clause.specs.declared.clause.Clause.{Clause}
 use Rattle.obo_clause.specs.declared.line.Line.{Line}
 use Rattle.obo_clause.specs.declared.line.Line.TheVariants as says
-use Rattle.obo_frames.specs.Frames.{Entry, id_in, place, place_id}
+use Rattle.obo_frames.specs.Frames.{Entry, id_in, place_entry, place_id}
 use Rattle.obo_frames.specs.declared.placed.Placed.{Placed}
 use Rattle.obo_frames.specs.declared.standing.Standing.{Standing}
 use Rattle.obo_frames.specs.declared.standing.Standing.TheVariants.{Begun, Header, Nameless, Within}
@@ -37,9 +37,9 @@ place_first kind (Some id) entry = place_id kind id entry ∷ []
 
 -- what a clause places
 abbrev pub placed_by_clause : Standing → Entry → List Placed
-placed_by_clause Header entry = place kinds.Header [] entry ∷ []
+placed_by_clause Header entry = place_entry kinds.Header [] entry ∷ []
 placed_by_clause (Begun kind line) entry = place_first kind (id_in entry.clause) entry
-placed_by_clause (Within kind id) entry = place kind id entry ∷ []
+placed_by_clause (Within kind id) entry = place_entry kind id entry ∷ []
 placed_by_clause Nameless entry = []
 
 -- what a line places

@@ -1,7 +1,7 @@
 use Rattle.std.proofs.Common.{◌≡◌, ◌+◌, ◌<◌, ◌≤◌, List, [], ◌∷◌, ◌++◌, Option, length, suc, arith, subst, sym, ap, ◌∙◌}
 use Rattle.obo_clause.specs.declared.clause.Qualifier.{Qualifier}
-use Rattle.obo_clause.specs.declared.mark.Mark.{Mark}
-use Rattle.clause_reader.specs.Results.{FindsWith}
+use Rattle.obo_clause.specs.declared.mark.MarkedByte.{MarkedByte}
+use Rattle.clause_reader.specs.inner.Results.{FindsWith}
 use Rattle.obo_clause.specs.Reading.{Field, behind_blanks, block_end, qualifier_of}
 use Rattle.clause_reader.proofs.LoopLemmas.{BlocksOn, blocks-end, blocks-fail, blocks-none, blocks-on}
 use Rattle.clause_reader.proofs.blocks.qualifiers_in.Goals as goal
@@ -19,7 +19,7 @@ returns-in-None-behind_sign c =
     let e = blocks-end marks (suc (length marks)) c.loop.qualifiers.items c.loop.rest.now c.loop.counter field c.loop.invariant less c.in-Some.ensures (sym c.in-None-behind_sign.ensures) in
     let pushed : c.push.new.self.items ≡ c.loop.qualifiers.items ++ qualifier_of field ∷ [] = c.in_ok-push.ensures.items ∙ ap (λ one. c.loop.qualifiers.items ++ one ∷ []) c.in_ok-qualifier_of.ensures in
     let same = e ∙ ap (λ qualifiers. block_end qualifiers c.in-Some.field.rest.now) (sym pushed) in
-    subst (λ (found : Option (List Qualifier × List Mark)). FindsWith found c.block_end.result) (sym same) c.block_end.ensures
+    subst (λ (found : Option (List Qualifier × List MarkedByte)). FindsWith found c.block_end.result) (sym same) c.block_end.ensures
 
 pub loop-preserved : goal.loop-preserved
 loop-preserved c =
@@ -29,7 +29,7 @@ loop-preserved c =
     let on = blocks-on marks (suc (length marks)) c.loop.qualifiers.items c.loop.rest.now c.loop.counter field c.in-Some-behind_sign.more.now c.loop.invariant less c.in-Some.ensures (sym c.in-Some-behind_sign.ensures) in
     let pushed : c.push.new.self.items ≡ c.loop.qualifiers.items ++ qualifier_of field ∷ [] = c.in_ok-push.ensures.items ∙ ap (λ one. c.loop.qualifiers.items ++ one ∷ []) c.in_ok-qualifier_of.ensures in
     let moved = subst (λ (qualifiers : List Qualifier). BlocksOn marks (suc (length marks)) qualifiers (behind_blanks c.in-Some-behind_sign.more.now) (c.loop.counter + 1)) (sym pushed) on in
-    subst (λ (rest : List Mark). BlocksOn marks (suc (length marks)) c.push.new.self.items rest (c.loop.counter + 1)) (sym c.behind_blanks-rest.ensures) moved
+    subst (λ (rest : List MarkedByte). BlocksOn marks (suc (length marks)) c.push.new.self.items rest (c.loop.counter + 1)) (sym c.behind_blanks-rest.ensures) moved
 
 pub returns : goal.returns
 returns c =

@@ -1,8 +1,8 @@
 use Rattle.std.proofs.Common.{◌+◌, ◌<◌, ◌≤◌, List, length, suc, arith, rules, subst, sym, ap, ◌∙◌}
 use Rattle.std.specs.Option.{option_copied}
 use Rattle.obo_clause.specs.declared.clause.Xref.{Xref}
-use Rattle.obo_clause.specs.declared.mark.Mark.{Mark}
-use Rattle.clause_reader.specs.Results.{GivesWith}
+use Rattle.obo_clause.specs.declared.mark.MarkedByte.{MarkedByte}
+use Rattle.clause_reader.specs.inner.Results.{GivesWith}
 use Rattle.obo_clause.specs.Reading.{Answer, list_end}
 use Rattle.clause_reader.proofs.LoopLemmas.{ListsOn, lists-end, lists-fail, lists-none, lists-on}
 use Rattle.clause_reader.proofs.lists.xrefs_in.Goals as goal
@@ -18,7 +18,7 @@ returns-in-None c =
     let less : c.loop.counter < suc (length c.args.marks.now) = omega arith in
     let e = lists-end marks (suc (length marks)) c.loop.xrefs.items c.loop.rest.now c.loop.counter c.in_ok-slot.slot.id.now (option_copied c.in_ok-slot.slot.label) c.in_ok-slot.slot.rest.now c.loop.invariant less c.in_ok-slot.ensures (sym c.in-None.ensures) in
     let same = e ∙ ap (λ xrefs. list_end xrefs c.in_ok-slot.slot.rest.now) (sym c.in_ok-push_xref.ensures) in
-    subst (λ (answer : Answer (List Xref × List Mark)). GivesWith answer c.list_end.result) (sym same) c.list_end.ensures
+    subst (λ (answer : Answer (List Xref × List MarkedByte)). GivesWith answer c.list_end.result) (sym same) c.list_end.ensures
 
 pub loop-preserved : goal.loop-preserved
 loop-preserved c =

@@ -1,5 +1,5 @@
 use Rattle.std.proofs.Common.{sym}
-use Rattle.clause_reader.specs.Classes.{in_class}
+use Rattle.clause_reader.specs.inner.Classes.{in_class}
 use Rattle.clause_reader.proofs.ScanLemmas.{runs-begin, runs-on}
 use Rattle.clause_reader.proofs.marks.run_end.Goals as goal
 

@@ -1,5 +1,5 @@
 use Rattle.std.proofs.Common.{List, ℕ, subst}
-use Rattle.clause_reader.specs.Results.{Gives}
+use Rattle.clause_reader.specs.inner.Results.{Gives}
 use Rattle.obo_clause.specs.ReadingLines.{answer_to}
 use Rattle.clause_reader.proofs.AnswerLemmas.{gives-failed, gives-faults, gives-said, gives-says}
 use Rattle.clause_reader.proofs.reader.read_line.Goals as goal

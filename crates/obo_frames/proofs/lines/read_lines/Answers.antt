@@ -25,7 +25,7 @@ loop-item-preserved c =
     let progress = subst (Progress all c.loop-item.place c.loop-item.draft) (ap (λ (feeder : Feeder). feeder.lines.waiting) c.in-Some.ensures.some) c.loop-item.invariant.0 in
     let said = c.in_ok-told.ensures in
     let more = c.in_ok-draft.ensures in (
-      progress_goes_on all c.loop-item.place _ c.loop-item.draft _ c.in-Some.item _ c.in_ok-told.told progress said.tells c.behind-place.ensures more.standing more.placed more.lost,
+      progress_goes_on all c.loop-item.place _ c.loop-item.draft _ c.in-Some.item _ c.in_ok-told.told progress said.tells c.place_after-place.ensures more.standing more.placed more.lost,
       sym (ap (λ (feeder : Feeder). feeder.is_spent) c.in-Some.ensures.some) ∙ c.loop-item.invariant.1,
     )
 

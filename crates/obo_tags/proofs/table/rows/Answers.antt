@@ -1,6 +1,6 @@
 -- Each rule over the table computes.
 use Rattle.std.proofs.Common.{refl}
-use Rattle.obo_tags.specs.Rows.{row_tags}
+use Rattle.obo_tags.specs.inner.Rows.{row_tags}
 use Rattle.obo_tags.specs.Table.{shape_of, tags_of}
 use Rattle.obo_tags.proofs.table.rows.Goals as goal
 

@@ -1,6 +1,6 @@
 -- Each arm is one rule over the table, at the row of the tag.
 use Rattle.obo_tags.specs.declared.kind.FrameKind.TheVariants.{Header, Instance, Term, Typedef}
-use Rattle.obo_tags.specs.Rows.{Row}
+use Rattle.obo_tags.specs.inner.Rows.{Row}
 use Rattle.obo_tags.proofs.TableLemmas.{rank-at}
 use Rattle.obo_tags.proofs.tag.rank.Goals as goal
 

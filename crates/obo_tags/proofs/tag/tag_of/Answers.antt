@@ -5,7 +5,7 @@ use Rattle.std.proofs.lemmas.Fn.{always_returns_same}
 use Rattle.std.proofs.lemmas.List.Sorted.{searchable_from_sorted}
 use Rattle.std.specs.Cmp.Lexicographic.{slice_cmp}
 use Rattle.std.specs.Ordering.{nat_cmp}
-use Rattle.obo_tags.specs.Rows.{Row}
+use Rattle.obo_tags.specs.inner.Rows.{Row}
 use Rattle.obo_tags.proofs.TableLemmas.{found-at, none-found, rows-sorted}
 use Rattle.obo_tags.proofs.tag.tag_of.Goals as goal
 

@@ -1,5 +1,6 @@
 use Rattle.std.proofs.Common.{◌≡◌, Option, Some, None, MatchOption, ℕ, List, sym}
-use Rattle.rel_io.specs.FileList.{FileList, IsAbsent, IsFoundAt, place_of}
+use Rattle.rel_io.specs.FileList.{FileList}
+use Rattle.rel_io.specs.inner.Finding.{IsAbsent, IsFoundAt, place_of}
 use Rattle.rel_io.proofs.Files.{place_of-absent, place_of-found}
 use Rattle.rel_io.proofs.mem_folder.find_file.Goals as goal
 

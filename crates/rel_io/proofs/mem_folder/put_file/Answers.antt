@@ -1,6 +1,6 @@
 use Rattle.std.proofs.Common.{refl}
 use Rattle.std.proofs.lemmas.Result.{err_from_is_err_and}
-use Rattle.rel_io.specs.FileList.{IsAbsent, IsFoundAt}
+use Rattle.rel_io.specs.inner.Finding.{IsAbsent, IsFoundAt}
 use Rattle.rel_io.proofs.mem_folder.put_file.Goals as goal
 
 pub returns-in_err-from_slice-clause-ok : goal.returns-in_err-from_slice-clause-ok

@@ -1,24 +1,24 @@
 -- Where one word departs, all words before it fit.
 use Rattle.std.proofs.Common.{List, [], ◌∷◌, codes, ◌∙◌}
 use Rattle.std.proofs.lemmas.Result.{err_from_is_err_and}
-use Rattle.release_chain.specs.Words.{Fixed, InputName, OutputName, Place}
+use Rattle.release_chain.specs.Words.{ExpectedWord, Fixed, InputName, OutputName}
 use Rattle.release_chain.proofs.WordLemmas.{chain-refused, first_wrong-fits}
 use Rattle.release_chain.proofs.words.find_paths.Goals as goal
 
 -- the places behind each word
-abbrev behind_option : List Place
+abbrev behind_option : List ExpectedWord
 behind_option = OutputName ∷ []
 
-abbrev behind_convert : List Place
+abbrev behind_convert : List ExpectedWord
 behind_convert = Fixed (codes "--output") ∷ behind_option
 
-abbrev behind_input : List Place
+abbrev behind_input : List ExpectedWord
 behind_input = Fixed (codes "convert") ∷ behind_convert
 
-abbrev behind_input_option : List Place
+abbrev behind_input_option : List ExpectedWord
 behind_input_option = InputName ∷ behind_input
 
-abbrev behind_merge : List Place
+abbrev behind_merge : List ExpectedWord
 behind_merge = Fixed (codes "--input") ∷ behind_input_option
 
 pub returns-in_err-expect_word : goal.returns-in_err-expect_word

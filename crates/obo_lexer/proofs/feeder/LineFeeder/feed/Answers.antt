@@ -1,5 +1,5 @@
 use Rattle.std.proofs.Common.{rules}
-use Rattle.obo_lexer.specs.Held.{progress_of}
+use Rattle.obo_lexer.specs.inner.Held.{progress_of}
 use Rattle.obo_lexer.proofs.TextLemmas.{HaveLineTexts-fed, ok-from_test}
 use Rattle.obo_lexer.proofs.feeder.LineFeeder.feed.Goals as goal
 

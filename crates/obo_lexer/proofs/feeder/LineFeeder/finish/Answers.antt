@@ -1,5 +1,5 @@
 use Rattle.std.proofs.Common.{arith, rules}
-use Rattle.obo_lexer.specs.Held.{progress_of}
+use Rattle.obo_lexer.specs.inner.Held.{progress_of}
 use Rattle.obo_lexer.proofs.TextLemmas.{HaveLineTexts-finished, ended-finished, ok-from_test}
 use Rattle.obo_lexer.proofs.feeder.LineFeeder.finish.Goals as goal
 

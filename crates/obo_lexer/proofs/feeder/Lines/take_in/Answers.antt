@@ -4,7 +4,7 @@ use Rattle.std.specs.List.{list_any}
 use Rattle.std.proofs.lemmas.List.{take_rest}
 use Rattle.std.proofs.lemmas.Result.{err_from_is_err_and}
 use Rattle.obo_lexer.specs.Feeding.{ended_with, fed_with}
-use Rattle.obo_lexer.specs.Held.{progress_of}
+use Rattle.obo_lexer.specs.inner.Held.{progress_of}
 use Rattle.rel_io.specs.Texts.{is_line_feed}
 use Rattle.obo_lexer.proofs.FeedingLemmas.{fed_with-none, fed_with-one}
 use Rattle.obo_lexer.proofs.feeder.Lines.take_in.Goals as goal

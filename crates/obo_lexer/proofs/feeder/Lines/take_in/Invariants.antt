@@ -1,6 +1,6 @@
 use Rattle.std.proofs.Common.{◌≡◌, ◌+◌, ◌≤◌, length}
 use Rattle.obo_lexer.specs.Feeding.{fed_with}
-use Rattle.obo_lexer.specs.Held.{progress_of}
+use Rattle.obo_lexer.specs.inner.Held.{progress_of}
 use Rattle.obo_lexer.specs.Lines.{HasNoLineFeed}
 use Rattle.obo_lexer.proofs.feeder.Lines.take_in.Given as goal
 

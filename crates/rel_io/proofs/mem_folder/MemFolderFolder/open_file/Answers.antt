@@ -1,6 +1,6 @@
 use Rattle.std.proofs.Common.{◌≡◌, Some, nat_eq, false, true, ap, refl, subst, sym, ◌∙◌}
 use Rattle.std.specs.List.{list_any}
-use Rattle.rel_io.specs.FileList.{IsAbsent, IsFoundAt, IsOpenAt}
+use Rattle.rel_io.specs.inner.Finding.{IsAbsent, IsFoundAt, IsOpenAt}
 use Rattle.rel_io.specs.MemFolder.{MemFolderState, fails}
 use Rattle.rel_io.proofs.Counts.{from_zero, rose}
 use Rattle.rel_io.proofs.Options.{none_there, same_there}

@@ -2,7 +2,7 @@ use Rattle.std.proofs.Common.{◌≡◌, ◌==◌, ℕ, [], Some, length, nat_eq
 use Rattle.std.proofs.lemmas.Grind.{common_steps}
 use Rattle.std.specs.List.{list_any}
 use Rattle.std.specs.Option.{unwrap_or}
-use Rattle.rel_io.specs.FileList.{IsOpenAt, bytes_at}
+use Rattle.rel_io.specs.inner.Finding.{IsOpenAt, bytes_at}
 use Rattle.rel_io.specs.FolderState.{Position}
 use Rattle.rel_io.specs.MemFolder.{MemFolderState, fails, next_count, read_answer}
 use Rattle.rel_io.specs.declared.folder.Got.TheVariants as got

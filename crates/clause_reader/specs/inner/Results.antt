@@ -5,7 +5,7 @@ use Rattle.std.specs.Borrow.{Bor}
 use Rattle.std.specs.Option.{option_map}
 use Rattle.obo_clause.specs.declared.line.LineFault.{LineFault}
 use Rattle.obo_clause.specs.declared.line.LineFault.TheVariants as fault
-use Rattle.obo_clause.specs.declared.mark.Mark.{Mark}
+use Rattle.obo_clause.specs.declared.mark.MarkedByte.{MarkedByte}
 use Rattle.obo_clause.specs.Reading.{Answer}
 
 -- the answer is this one, but for want of memory
@@ -15,13 +15,13 @@ Gives answer (Err (fault.Syntax one)) = answer ≡ Err one
 Gives answer (Err fault.NoMemory) = Unit {0}
 
 -- the answer is this one, with a list that is lent, but for want of memory
-abbrev pub GivesWith : {A : Type 0} → Answer (A × List Mark) → Result (A × Bor (List Mark)) LineFault → Type 0
+abbrev pub GivesWith : {A : Type 0} → Answer (A × List MarkedByte) → Result (A × Bor (List MarkedByte)) LineFault → Type 0
 GivesWith answer (Ok one) = answer ≡ Ok (one.0, one.1.now)
 GivesWith answer (Err (fault.Syntax one)) = answer ≡ Err one
 GivesWith answer (Err fault.NoMemory) = Unit {0}
 
 -- this is found, with a list that is lent
-abbrev pub FindsWith : {A : Type 0} → Option (A × List Mark) → Option (A × Bor (List Mark)) → Type 0
+abbrev pub FindsWith : {A : Type 0} → Option (A × List MarkedByte) → Option (A × Bor (List MarkedByte)) → Type 0
 FindsWith answer None = answer ≡ None
 FindsWith answer (Some one) = answer ≡ Some (one.0, one.1.now)
 
