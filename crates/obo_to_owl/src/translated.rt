@@ -18,6 +18,16 @@ pub struct Dropped {
     pub tag: Bytes,
 }
 
+impl Dup for Dropped {
+    fn copy(&self, alloc: Global) -> Result<Dropped, NoMemory> {
+        let tag = self.tag.copy(alloc)?;
+        Ok(Dropped {
+            line: self.line,
+            tag,
+        })
+    }
+}
+
 /// The axioms of a document, and the clauses that have none.
 #[derive(Drop)]
 pub struct Translated {
