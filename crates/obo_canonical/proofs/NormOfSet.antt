@@ -108,7 +108,7 @@ module _ (d e : List Framed) (same : SameMembers d e) where
   named : SameMembers (names_in d) (names_in e)
   named = same_filter_map _ d e same
 
-  name : name_of d ≡ name_of e
+  pub name : name_of d ≡ name_of e
   name = ap first_part (same_sorted (names_in d) (names_in e) named)
 
   space : space_of d ≡ space_of e
@@ -209,7 +209,7 @@ module _ (d e : List Framed) (same : SameMembers d e) where
       subst (λ (u : Framed → Bool). SameMembers (kept_with d tag) (filter (λ (one : Framed). has_tag tag one && not (is_raw one.clause.value) && u one) e)) untranslatable
       (same_filter (λ (one : Framed). has_tag tag one && not (is_raw one.clause.value) && is_untranslatable d one) d e same)
 
-  same_owl : SameMembers (owl d) (owl e)
+  pub same_owl : SameMembers (owl d) (owl e)
   same_owl =
       let spaces = λ (s : Situation) (all : List Framed). filter_map (λ (one : Framed). entity_of s one.frame one.id) (kept_with all (codes "namespace")) in
       let defaults = λ (all : List Framed). filter_map (λ (one : Framed). text_in one.clause.value) (kept_with all (codes "default-namespace")) in

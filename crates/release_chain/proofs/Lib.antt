@@ -1,5 +1,11 @@
-pub mod ChainLemmas
-pub mod EndingLemmas
-pub mod ReleaseLemmas
-pub mod WordLaws
-pub mod WordLemmas
+pub mod Asked
+pub mod Chains
+pub mod Clauses
+pub mod CountLemmas
+pub mod Held
+pub mod Loading
+pub mod Names
+pub mod Outputs
+pub mod Parts
+pub mod Turns
+pub mod Unbuilt

@@ -1,70 +1,91 @@
--- How a chain ends, case by case: every clause of the top call follows from it. (Own.)
-use Rattle.std.specs.Prelude.{◌≡◌, ℕ, List, Option, Some, None, Result, Ok, Err, IfErr, IsOk, ⊤}
+-- How a part of a run ends: at its end, or at a place in what it does. (Own.)
+use Rattle.std.specs.Prelude.{◌≡◌, ℕ, List, [], ◌∷◌, ◌++◌, Option, Some, Result, Ok, Err, true}
+use Rattle.std.specs.FinMap.{get, insert}
+use Rattle.std.specs.Option.{option_map}
 use Rattle.rel_io.specs.Count.{Rose}
-use Rattle.rel_io.specs.FolderState.{FolderState}
-use Rattle.release_chain.specs.Release.{EndsAs, OfRun, ReadFaultCaused, WriteFaultCaused, WrotePrefix}
-use Rattle.release_chain.specs.Run.{byte_limit}
-use Rattle.release_chain.specs.Words.{Word, chain}
-use Rattle.release_chain.specs.declared.fault.Fault.{Fault}
-use Rattle.release_chain.specs.declared.fault.Fault.TheVariants.{BadWord, MissingInput, TooManyBytes, NotUtf8, LineTooLong, Syntax, NoId, ShortGroup, LineNotBuilt, ReadFault, WriteFault, NoMemory}
-use Rattle.release_chain.specs.declared.fault.WordKind.{WordKind}
-use Rattle.release_chain.specs.declared.words.Paths.{Paths}
-use Rattle.import_closure.specs.declared.file.FileFault.{FileFault}
-use Rattle.import_closure.specs.declared.file.FileFault.TheVariants as file
+use Rattle.rel_io.specs.Folder.{HoldsOthers}
+use Rattle.rel_io.specs.FolderState.{Files, FolderState}
+use Rattle.chain_words.specs.Command.{is_one_of}
+use Rattle.chain_words.specs.Word.{Name}
+use Rattle.release_report.specs.Cause.{Cause, Words, Refused, Absent, NotRead, NotWritten, NotReported, RanOut, cause_of}
+use Rattle.release_report.specs.declared.fault.Fault.{Fault}
+use Rattle.release_chain.specs.Outputs.{Fits}
+use Rattle.release_chain.specs.Part.{Act, Opens, Output, Part, Puts}
 
--- the fault of words that are no chain, or of want of memory where they are one
-abbrev pub RefusesWords : List Word → Fault → Type 0
-RefusesWords words (BadWord index kind) = chain words ≡ Err (record { index = index; kind = kind })
-RefusesWords words (MissingInput name) = ⊥
-RefusesWords words (TooManyBytes name limit) = ⊥
-RefusesWords words (NotUtf8 file line) = ⊥
-RefusesWords words (LineTooLong file line) = ⊥
-RefusesWords words (Syntax file line kind) = ⊥
-RefusesWords words (NoId file line) = ⊥
-RefusesWords words (ShortGroup file line) = ⊥
-RefusesWords words (LineNotBuilt file line) = ⊥
-RefusesWords words (ReadFault name) = ⊥
-RefusesWords words (WriteFault name) = ⊥
-RefusesWords words NoMemory = IsOk (chain words)
+-- the folder went from the one state to the other by these acts
+abbrev pub Did : List Act → Option Files → Option Files → Type 0
+Did [] before now = now ≡ before
+Did (Opens name ∷ acts) before now = Did acts before now
+Did (Puts output ∷ acts) before now = (bytes : List ℕ) × Fits output.made bytes × Did acts (option_map (λ files. insert files output.name bytes) before) now
 
--- the fault of a chain whose input was not read
-abbrev pub fault_of_input : List ℕ → FileFault → Fault
-fault_of_input name file.Missing = MissingInput name
-fault_of_input name file.ReadFault = ReadFault name
-fault_of_input name file.TooManyBytes = TooManyBytes name byte_limit
-fault_of_input name file.NoMemory = NoMemory
+-- all was done, and this was answered
+pub record IsDone {A : Type 0} (part : Part A) (answer : Result A Fault) (before now : Option Files) : Type 0 where
+  pub answered : part.answer ≡ answer
+  pub did : Did part.acts before now
 
--- the words are a chain, and the ending is that of its run, with this fault or none
-pub record Runs (words : List Word) (before : FolderState) (fault : Option Fault) (now : FolderState) : Type 0 where
-  pub accepted : IsOk (chain words)
-  pub ending : OfRun words before (λ run. EndsAs run before fault now)
+-- the first of these acts were done, each of them whole, and no other
+pub record IsCut (acts : List Act) (before now : Option Files) : Type 0 where
+  pub done : List Act
+  pub rest : List Act
+  pub in_order : acts ≡ done ++ rest
+  pub did : Did done before now
 
--- the words are no chain, and nothing was touched
-pub record IsNoChain (words : List Word) (before : FolderState) (index : ℕ) (kind : WordKind) (now : FolderState) : Type 0 where
-  pub wrong : chain words ≡ Err (record { index = index; kind = kind })
-  pub untouched : now ≡ before
+-- those before the opening of a file of this name were done
+pub record IsCutAtOpening (acts : List Act) (name : Name) (before now : Option Files) : Type 0 where
+  pub done : List Act
+  pub rest : List Act
+  pub in_order : acts ≡ done ++ Opens name ∷ rest
+  pub did : Did done before now
 
--- memory ran out: before anything was touched where the words are no chain, and else behind the first outputs of the run
-pub record RanOut (words : List Word) (before now : FolderState) : Type 0 where
-  pub untouched : IfErr (chain words) (λ _. now ≡ before)
-  pub wrote : OfRun words before (λ run. WrotePrefix run before now)
+-- those before an output of this name were done; of that name nothing is known
+pub record IsCutAtOutput (acts : List Act) (name : Name) (before now : Option Files) : Type 0 where
+  pub done : List Act
+  pub output : Output
+  pub rest : List Act
+  pub in_order : acts ≡ done ++ Puts output ∷ rest
+  pub named : output.name ≡ name
+  pub between : Option Files
+  pub did : Did done before between
+  pub others : HoldsOthers name between now
 
--- how the words ended
-abbrev pub Ends : List Word → FolderState → Result ⊤ Fault → FolderState → Type 0
-Ends words before (Ok done) now = Runs words before None now
-Ends words before (Err (BadWord index kind)) now = IsNoChain words before index kind now
-Ends words before (Err (MissingInput name)) now = Runs words before (Some (MissingInput name)) now × Rose before.misses now.misses
-Ends words before (Err (TooManyBytes name limit)) now = Runs words before (Some (TooManyBytes name limit)) now
-Ends words before (Err (NotUtf8 file line)) now = Runs words before (Some (NotUtf8 file line)) now
-Ends words before (Err (LineTooLong file line)) now = Runs words before (Some (LineTooLong file line)) now
-Ends words before (Err (Syntax file line kind)) now = Runs words before (Some (Syntax file line kind)) now
-Ends words before (Err (NoId file line)) now = Runs words before (Some (NoId file line)) now
-Ends words before (Err (ShortGroup file line)) now = Runs words before (Some (ShortGroup file line)) now
-Ends words before (Err (LineNotBuilt file line)) now = Runs words before (Some (LineNotBuilt file line)) now
-Ends words before (Err (ReadFault name)) now = IsOk (chain words) × ReadFaultCaused words before name now
-Ends words before (Err (WriteFault name)) now = IsOk (chain words) × WriteFaultCaused words before name now
-Ends words before (Err NoMemory) now = RanOut words before now
+-- how a part ends with a fault, by the cause of the fault
+abbrev pub StopsBy : {A : Type 0} → Cause → Part A → Fault → Option Files → Option Files → Type 0
+StopsBy Words part fault before now = ⊥
+StopsBy Refused part fault before now = IsDone part (Err fault) before now
+StopsBy Absent part fault before now = IsDone part (Err fault) before now
+StopsBy (NotRead name) part fault before now = IsCutAtOpening part.acts name before now
+StopsBy (NotWritten name) part fault before now = IsCutAtOutput part.acts name before now
+StopsBy NotReported part fault before now = ⊥
+StopsBy RanOut part fault before now = IsCut part.acts before now
 
--- how the chain of these paths ended, whatever words it was read from
-abbrev pub EndsChain : Paths → FolderState → Result ⊤ Fault → FolderState → Type 0
-EndsChain paths before result now = (words : List Word) → chain words ≡ Ok paths → Ends words before result now
+-- all was done, and what was answered is told by this value
+pub record IsTold {V A : Type 0} (Tells : V → A → Type 0) (part : Part A) (value : V) (before now : Option Files) : Type 0 where
+  pub state : A
+  pub done : IsDone part (Ok state) before now
+  pub told : Tells value state
+
+-- how a part ends
+abbrev pub Ends : {V A : Type 0} → (V → A → Type 0) → Part A → Result V Fault → Option Files → Option Files → Type 0
+Ends Tells part (Ok value) before now = IsTold Tells part value before now
+Ends Tells part (Err fault) before now = StopsBy (cause_of fault) part fault before now
+
+-- what a cause has counted in the folder: this holds in every run
+abbrev pub Counted : Cause → FolderState → FolderState → Type 0
+Counted Words before now = ⊥
+Counted Refused before now = Unit {0}
+Counted Absent before now = Rose before.misses now.misses
+Counted (NotRead name) before now = Rose before.read_faults now.read_faults
+Counted (NotWritten name) before now = Rose before.write_faults now.write_faults
+Counted NotReported before now = ⊥
+Counted RanOut before now = Unit {0}
+
+abbrev pub Caused : {V : Type 0} → Result V Fault → FolderState → FolderState → Type 0
+Caused (Ok value) before now = Unit {0}
+Caused (Err fault) before now = Counted (cause_of fault) before now
+
+-- the folder holds of this name what these files hold
+abbrev pub SameAt : Name → Files → Option Files → Type 0
+SameAt name files held = (now : Files) × (held ≡ Some now) × (get now name ≡ get files name)
+
+abbrev pub SameAtAll : List Name → Files → Option Files → Type 0
+SameAtAll names files held = (name : Name) → is_one_of name names ≡ true → SameAt name files held

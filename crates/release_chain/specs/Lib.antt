@@ -1,7 +1,9 @@
+pub mod Answer
+pub mod Counts
 pub mod Ending
-pub mod Fault
-pub mod Laws
-pub mod LineFault
+pub mod Outputs
+pub mod Part
 pub mod Release
 pub mod Run
-pub mod Words
+pub mod Status
+pub mod inner

@@ -1,128 +1,138 @@
--- What an ending of the program says, clause by clause, over the words, the folder before the call, the fault, and the
--- folder after it. If a run ends with status 0, each file that it wrote is the text of axioms that follow from the merged
--- axioms, and nothing else changed; every other ending names its cause. What is said of a run is said where it is known:
--- of wrong words always, and of a chain where the folder tells what it holds. (Own.)
-use Rattle.std.specs.Prelude.{◌≡◌, ◌≢◌, ◌⊎◌, ℕ, List, ◌++◌, ◌∷◌, Option, Some, None, Err, Contains, IfErr, IfSome, IsTrue}
+-- What an ending of the program says, clause by clause, over the words, the fault, and what stands outside before the call
+-- and after it. If a chain ends with status 0, each file that it wrote is the text of axioms that follow from the merged
+-- axioms, and every finite model of them agrees, on the same domain, over the names common to all seeds before it, with a
+-- model of the merged axioms; every other ending names its cause. (Own.)
+use Rattle.std.specs.Prelude.{◌≡◌, ◌≢◌, ◌⊎◌, ℕ, List, [], ◌∷◌, Option, Some, None, Result, Ok, Err, IfErr, IfOk, IfSome}
 use Rattle.std.specs.FinMap.{get}
-use Rattle.std.specs.Option.{option_map}
+use Rattle.std.specs.Result.{result_err}
 use Rattle.rel_io.specs.Count.{Rose}
-use Rattle.rel_io.specs.Folder.{HoldsOthers}
 use Rattle.rel_io.specs.FolderState.{Files, FolderState}
-use Rattle.rel_io.specs.Sink.{SinkState}
-use Rattle.release_chain.specs.Fault.{is_refusal}
-use Rattle.release_chain.specs.Run.{Opening, Output, Run, after_outputs, run}
-use Rattle.owl_ontology.specs.Same.{SaysTheSame}
-use Rattle.term_frames.specs.Lines.{lines_of}
-use Rattle.term_frames.specs.Mapping.{ontology_of}
-use Rattle.term_frames.specs.Text.{obo_text}
-use Rattle.release_chain.specs.Words.{Word, chain}
-use Rattle.release_chain.specs.declared.fault.Fault.{Fault}
-use Rattle.release_chain.specs.declared.fault.Fault.TheVariants.{BadWord, MissingInput, ReadFault, WriteFault, NoMemory}
-use Rattle.release_chain.specs.declared.fault.WordKind.{WordKind}
+use Rattle.rel_io.specs.Sink.{Appends, SinkState, WritesPart}
+use Rattle.chain_words.specs.Word.{Word}
+use Rattle.chain_words.specs.declared.command.Chain.{Chain}
+use Rattle.release_report.specs.Cause.{Cause, Words, Refused, Absent, NotRead, NotWritten, NotReported, RanOut, cause_of}
+use Rattle.release_report.specs.EntryText.{report_text}
+use Rattle.release_report.specs.FaultText.{fault_text}
+use Rattle.release_report.specs.declared.fault.Fault.{Fault}
+use Rattle.release_report.specs.declared.fault.Fault.TheVariants.{NoMemory}
+use Rattle.release_chain.specs.Ending.{Did, IsCut, IsCutAtOpening, IsCutAtOutput}
+use Rattle.release_chain.specs.Outputs.{Fits}
+use Rattle.release_chain.specs.Part.{Act, Opens, Output, Part, Puts}
+use Rattle.release_chain.specs.Run.{OfRun, Trace, asked}
 
--- this is said of the run of the words, where it is known
-abbrev pub OfRun : List Word → FolderState → (Run → Type 0) → Type 0
-OfRun words before says = IfSome (run words before.holds) says
+-- what stands outside the program
+pub record Outside : Type 0 where
+  pub folder : FolderState
+  pub out : SinkState
+  pub err : SinkState
 
--- the folder holds what it held, with each of these outputs under its name, and nothing else changed
-abbrev pub Wrote : List Output → Option Files → Option Files → Type 0
-Wrote outputs before now = now ≡ option_map (after_outputs outputs) before
+abbrev pub outside : FolderState → SinkState → SinkState → Outside
+outside folder out err = record { folder = folder; out = out; err = err }
 
--- the ending is that of the run: its outputs were written, and its refusal, if any, is the fault
-pub record EndsAs (run : Run) (before : FolderState) (fault : Option Fault) (now : FolderState) : Type 0 where
-  pub refusal : fault ≡ run.refusal
-  pub outputs : Wrote run.outputs before.holds now.holds
+-- this is said of the run of the words over the files before the call
+abbrev pub OfItsRun : List Word → Outside → (Part Trace → Type 0) → Type 0
+OfItsRun words before Says = OfRun words before.folder.holds Says
+
+-- this holds of each output among the acts
+abbrev pub PutsAll : (Output → Type 0) → List Act → Type 0
+PutsAll P [] = Unit {0}
+PutsAll P (Opens name ∷ acts) = PutsAll P acts
+PutsAll P (Puts output ∷ acts) = P output × PutsAll P acts
 
 -- ---- an ending with status 0
 
--- a file that a run wrote: it is held; it is the text of its axioms, and is read as these again; and these are the merged
--- ones. No step changes axioms yet, so that to follow from the merged axioms is to be one of them
-pub record IsReleased (run : Run) (now : FolderState) (output : Output) : Type 0 where
-  pub held : IfSome now.holds (λ files. get files output.name ≡ Some output.bytes)
-  pub text : output.bytes ≡ obo_text output.ontology
-  pub reads_back : SaysTheSame (ontology_of (lines_of output.bytes)) output.ontology
-  pub merged : run.merged ≡ Some output.ontology
+-- a file of this name is held, and its bytes are the text of axioms that keep the merged ones over their scope
+pub record IsReleased (now : Option Files) (output : Output) : Type 0 where
+  pub bytes : List ℕ
+  pub fits : Fits output.made bytes
+  pub held : IfSome now (λ files. get files output.name ≡ Some bytes)
 
--- without a fault each output of the run is such a file
-abbrev pub Released : List Word → FolderState → Option Fault → FolderState → Type 0
-Released words before fault now =
-    fault ≡ None → OfRun words before (λ run. (output : Output) → Contains run.outputs output → IsReleased run now output)
+abbrev pub Released : List Word → Outside → Option Fault → Outside → Type 0
+Released words before fault now = fault ≡ None → OfItsRun words before (λ run. PutsAll (IsReleased now.folder.holds) run.acts)
 
--- without a fault the run refuses nothing, its outputs were written, and nothing else changed
-abbrev pub NothingElse : List Word → FolderState → Option Fault → FolderState → Type 0
-NothingElse words before fault now = fault ≡ None → OfRun words before (λ run. EndsAs run before fault now)
+-- the ending is that of the run
+pub record EndsAs (run : Part Trace) (fault : Option Fault) (before now : Outside) : Type 0 where
+  pub refusal : result_err run.answer ≡ fault
+  pub did : Did run.acts before.folder.holds now.folder.holds
+
+-- nothing else changed: what the run does was done, and nothing else
+abbrev pub NothingElse : List Word → Outside → Option Fault → Outside → Type 0
+NothingElse words before fault now = fault ≡ None → OfItsRun words before (λ run. EndsAs run None before now)
 
 -- ---- every other ending names its cause
 
--- what is refused is what the run refuses, behind its outputs
-abbrev pub Refused : List Word → FolderState → Option Fault → FolderState → Type 0
-Refused words before fault now =
-    (refusal : Fault) → fault ≡ Some refusal → IsTrue (is_refusal refusal) → OfRun words before (λ run. EndsAs run before fault now)
+-- by the cause of a fault: where the run stopped
+abbrev pub Stopped : Cause → Fault → Part Trace → Outside → Outside → Type 0
+Stopped Words fault run before now = EndsAs run (Some fault) before now
+Stopped Refused fault run before now = EndsAs run (Some fault) before now
+Stopped Absent fault run before now = EndsAs run (Some fault) before now
+Stopped (NotRead name) fault run before now = IsCutAtOpening run.acts name before.folder.holds now.folder.holds
+Stopped (NotWritten name) fault run before now = IsCutAtOutput run.acts name before.folder.holds now.folder.holds
+Stopped NotReported fault run before now = EndsAs run None before now
+Stopped RanOut fault run before now = IsCut run.acts before.folder.holds now.folder.holds
 
--- an input is called missing only where the folder missed a file
-abbrev pub MissesCounted : FolderState → Option Fault → FolderState → Type 0
-MissesCounted before fault now = (name : List ℕ) → fault ≡ Some (MissingInput name) → Rose before.misses now.misses
+-- and what it has counted
+abbrev pub CauseCounted : Cause → Outside → Outside → Type 0
+CauseCounted Words before now = Unit {0}
+CauseCounted Refused before now = Unit {0}
+CauseCounted Absent before now = Rose before.folder.misses now.folder.misses
+CauseCounted (NotRead name) before now = Rose before.folder.read_faults now.folder.read_faults
+CauseCounted (NotWritten name) before now = Rose before.folder.write_faults now.folder.write_faults
+CauseCounted NotReported before now = Rose before.out.faults now.out.faults
+CauseCounted RanOut before now = Unit {0}
 
--- the run ended where a file of this name is opened, behind exactly the outputs before it
-pub record StoppedAtOpening (run : Run) (before : FolderState) (name : List ℕ) (now : FolderState) : Type 0 where
-  pub opening : Opening
-  pub is_one : Contains run.openings opening
-  pub named : opening.name ≡ name
-  pub wrote : Wrote opening.written_before before.holds now.holds
+abbrev pub Counts : Option Fault → Outside → Outside → Type 0
+Counts fault before now = (one : Fault) → fault ≡ Some one → CauseCounted (cause_of one) before now
 
--- a read fault comes only where opening or reading failed, and names a file whose turn it was
-pub record ReadFaultCaused (words : List Word) (before : FolderState) (name : List ℕ) (now : FolderState) : Type 0 where
-  pub counted : Rose before.read_faults now.read_faults
-  pub stopped : OfRun words before (λ run. StoppedAtOpening run before name now)
-
-abbrev pub ReadFaults : List Word → FolderState → Option Fault → FolderState → Type 0
-ReadFaults words before fault now = (name : List ℕ) → fault ≡ Some (ReadFault name) → ReadFaultCaused words before name now
-
--- the run ended at the turn of an output of this name, behind the outputs before it; of that name nothing is known
-pub record StoppedAtOutput (run : Run) (before : FolderState) (name : List ℕ) (now : FolderState) : Type 0 where
-  pub written : List Output
-  pub output : Output
-  pub rest : List Output
-  pub outputs : run.outputs ≡ written ++ output ∷ rest
-  pub named : output.name ≡ name
-  pub between : Option Files
-  pub wrote : Wrote written before.holds between
-  pub others : HoldsOthers name between now.holds
-
--- a write fault comes only where writing failed, and names the output whose turn it was
-pub record WriteFaultCaused (words : List Word) (before : FolderState) (name : List ℕ) (now : FolderState) : Type 0 where
-  pub counted : Rose before.write_faults now.write_faults
-  pub stopped : OfRun words before (λ run. StoppedAtOutput run before name now)
-
-abbrev pub WriteFaults : List Word → FolderState → Option Fault → FolderState → Type 0
-WriteFaults words before fault now = (name : List ℕ) → fault ≡ Some (WriteFault name) → WriteFaultCaused words before name now
-
--- the first outputs of the run are written, each of them whole, and no other
-pub record WrotePrefix (run : Run) (before now : FolderState) : Type 0 where
-  pub written : List Output
-  pub rest : List Output
-  pub outputs : run.outputs ≡ written ++ rest
-  pub wrote : Wrote written before.holds now.holds
-
--- memory may run out before, between and behind the outputs, and never within one
-abbrev pub MemoryRanOut : List Word → FolderState → Option Fault → FolderState → Type 0
-MemoryRanOut words before fault now = fault ≡ Some NoMemory → OfRun words before (λ run. WrotePrefix run before now)
+abbrev pub Stops : List Word → Outside → Option Fault → Outside → Type 0
+Stops words before fault now = (one : Fault) → fault ≡ Some one → OfItsRun words before (λ run. Stopped (cause_of one) one run before now)
 
 -- ---- when each comes
 
 -- wrong words are refused in every run, unless memory ran out; nothing else is called so; and nothing was touched
-pub record BadWordsRefused (words : List Word) (before : FolderState) (fault : Option Fault) (now : FolderState) : Type 0 where
-  pub always : IfErr (chain words) (λ wrong. (fault ≡ Some (BadWord wrong.index wrong.kind)) ⊎ (fault ≡ Some NoMemory))
-  pub only : (index : ℕ) (kind : WordKind) → fault ≡ Some (BadWord index kind) → chain words ≡ Err (record { index = index; kind = kind })
-  pub untouched : IfErr (chain words) (λ _. now ≡ before)
+pub record IsWordsRefused (told : Result Chain Fault) (before : Outside) (fault : Option Fault) (now : Outside) : Type 0 where
+  pub always : IfErr told (λ refusal. (fault ≡ Some refusal) ⊎ (fault ≡ Some NoMemory))
+  pub only : (one : Fault) → fault ≡ Some one → cause_of one ≡ Words → told ≡ Err one
+  pub untouched : IfErr told (λ _. now.folder ≡ before.folder)
 
--- nothing outside failed in the call: no read, no write and no write to standard output
-pub record NothingFailed (before now : FolderState) (out_before out_now : SinkState) : Type 0 where
-  pub read : ¬ Rose before.read_faults now.read_faults
-  pub write : ¬ Rose before.write_faults now.write_faults
-  pub out : ¬ Rose out_before.faults out_now.faults
+abbrev pub WordsRefused : List Word → Outside → Option Fault → Outside → Type 0
+WordsRefused words before fault now = IsWordsRefused (asked words) before fault now
+
+-- nothing outside failed in the call
+pub record NothingFailed (before now : Outside) : Type 0 where
+  pub read : ¬ Rose before.folder.read_faults now.folder.read_faults
+  pub write : ¬ Rose before.folder.write_faults now.folder.write_faults
+  pub out : ¬ Rose before.out.faults now.out.faults
 
 -- where nothing outside failed, the ending is that of the run, unless memory ran out
-abbrev pub Complete : List Word → FolderState → SinkState → Option Fault → FolderState → SinkState → Type 0
-Complete words before out_before fault now out_now =
-    NothingFailed before now out_before out_now → fault ≢ Some NoMemory → OfRun words before (λ run. EndsAs run before fault now)
+abbrev pub Complete : List Word → Outside → Option Fault → Outside → Type 0
+Complete words before fault now = NothingFailed before now → fault ≢ Some NoMemory → OfItsRun words before (λ run. EndsAs run fault before now)
+
+-- ---- the sinks
+
+-- the report of a run that is done
+abbrev pub ReportIs : (List ℕ → Type 0) → Part Trace → Type 0
+ReportIs Says run = IfOk run.answer (λ trace. Says (report_text trace.entries))
+
+-- some text was written whole, or a part of it
+pub record Reported (words : List Word) (before now : Outside) : Type 0 where
+  pub text : List ℕ
+  pub told : OfItsRun words before (ReportIs (λ report. text ≡ report))
+  pub written : Appends text before.out now.out
+
+pub record ReportedPart (words : List Word) (before now : Outside) : Type 0 where
+  pub text : List ℕ
+  pub told : OfItsRun words before (ReportIs (λ report. text ≡ report))
+  pub written : WritesPart text before.out now.out
+
+abbrev pub OutBy : Cause → List Word → Outside → Outside → Type 0
+OutBy NotReported words before now = ReportedPart words before now
+OutBy other words before now = now.out ≡ before.out
+
+abbrev pub OutEnds : List Word → Outside → Option Fault → Outside → Type 0
+OutEnds words before None now = Reported words before now
+OutEnds words before (Some fault) now = OutBy (cause_of fault) words before now
+
+abbrev pub ErrEnds : Outside → Option Fault → Outside → Type 0
+ErrEnds before None now = now.err ≡ before.err
+ErrEnds before (Some fault) now = Appends (fault_text fault) before.err now.err ⊎ WritesPart (fault_text fault) before.err now.err

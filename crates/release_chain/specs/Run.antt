@@ -1,102 +1,218 @@
--- What a run of the program is, of its words and of the files that the folder holds. (Own.)
-use Rattle.std.specs.Prelude.{ℕ, if◌then◌else◌, List, [], ◌∷◌, Option, Some, None, Result, Ok, Err, length, nat_le}
-use Rattle.std.specs.FinMap.{get, insert}
-use Rattle.std.specs.Option.{option_map}
+-- What a run of the program is, of its words, of the files that the folder holds, and of the order in which the merged axioms
+-- stand. (Own.)
+use Rattle.std.specs.Prelude.{◌≡◌, ℕ, zero, ◌+◌, Bool, true, false, ◌&&◌, if◌then◌else◌, List, [], ◌∷◌, ◌++◌, Option, Some, None, Result, Ok, Err, IfOk, length, map, slice_get, unwrap_or}
+use Rattle.std.specs.List.{flat_map}
+use Rattle.std.specs.Option.{option_map, option_or}
 use Rattle.rel_io.specs.FolderState.{Files}
-use Rattle.obo_frames.specs.Answer.{document_of}
-use Rattle.obo_frames.specs.declared.fault.DocFault.{DocFault}
-use Rattle.obo_frames.specs.declared.fault.DocFault.TheVariants as doc
-use Rattle.obo_frames.specs.declared.placed.Placed.{Placed}
-use Rattle.owl_ontology.specs.Ontology.{OntologyState}
-use Rattle.term_frames.specs.Built.{unbuilt_line}
-use Rattle.term_frames.specs.Lines.{Line, lines_of}
-use Rattle.term_frames.specs.Mapping.{ontology_of}
-use Rattle.term_frames.specs.Text.{obo_text}
-use Rattle.release_chain.specs.Words.{Word, chain}
-use Rattle.release_chain.specs.declared.fault.Fault.{Fault}
-use Rattle.release_chain.specs.declared.fault.Fault.TheVariants.{BadWord, MissingInput, TooManyBytes, NotUtf8, LineTooLong, Syntax, NoId, ShortGroup, LineNotBuilt, NoMemory}
-use Rattle.release_chain.specs.declared.words.Paths.{Paths}
-use Rattle.release_chain.specs.declared.words.WrongWord.{WrongWord}
+use Rattle.rel_io.specs.Limits as limits
+use Rattle.rel_io.specs.declared.limits.Limits.{Limits}
+use Rattle.owl_axioms.specs.Names.{Scope, all_names}
+use Rattle.owl_ontology.specs.Ontology.{OntologyState, axioms_of}
+use Rattle.owl_ontology.specs.declared.origin.Origin.{Origin}
+use Rattle.chain_words.specs.Word.{Name, Word}
+use Rattle.chain_words.specs.Fault.{Reading}
+use Rattle.chain_words.specs.Read.{chain}
+use Rattle.chain_words.specs.declared.command.Chain.{Chain}
+use Rattle.chain_words.specs.declared.command.Command.{Command}
+use Rattle.chain_words.specs.declared.command.Command.TheVariants.{Run, Generate}
+use Rattle.chain_words.specs.declared.command.Format.{Format}
+use Rattle.chain_words.specs.declared.command.Format.TheVariants.{Obo, Ofn}
+use Rattle.chain_words.specs.declared.command.Output.{Output as Wanted}
+use Rattle.chain_words.specs.declared.command.Step.{Step}
+use Rattle.chain_words.specs.declared.command.Step.TheVariants.{Extract, Reason, Relax, Reduce, Convert}
+use Rattle.import_closure.specs.Closure.{reading}
+use Rattle.import_closure.specs.Loading.{Loading}
+use Rattle.import_closure.specs.declared.fault.LoadFault.{LoadFault}
+use Rattle.import_closure.specs.declared.fault.LoadFault.TheVariants as load
+use Rattle.import_closure.specs.declared.files.SourceFile.{SourceFile}
+use Rattle.import_merge.specs.Merged.{IsMerged}
+use Rattle.import_merge.specs.Notes.{file_note}
+use Rattle.import_merge.specs.declared.merged.FileNote.{FileNote}
+use Rattle.obo_mapping.specs.TwoValues.{TwoGiven, two_values}
+use Rattle.obo_to_owl.specs.declared.translated.Dropped.{Dropped}
+use Rattle.release_report.specs.declared.entry.Entry.{Entry}
+use Rattle.release_report.specs.declared.entry.Entry.TheVariants as entry
+use Rattle.release_report.specs.declared.fault.Fault.{Fault}
+use Rattle.release_report.specs.declared.fault.Fault.TheVariants as fault
+use Rattle.release_chain.specs.Counts.{counts_of}
+use Rattle.release_chain.specs.Outputs.{Made, text_of}
+use Rattle.release_chain.specs.Part.{Act, Opens, Output, Part, answers, gives, puts, then_do}
 
--- a file that is written: its name, the ontology that it is the text of, and its bytes
-pub record Output : Type 0 where
-  pub name : List ℕ
+-- what a run has come to
+pub record Trace : Type 0 where
+  -- the merged axioms
+  pub merged : OntologyState
+  -- what the steps made of them
   pub ontology : OntologyState
-  pub bytes : List ℕ
+  -- the names over which these keep the merged ones
+  pub scope : Scope
+  -- the names of the files, to which origins lead
+  pub files : List Name
+  -- the report so far
+  pub entries : List Entry
 
--- a file that is opened, and the outputs that are written before that
-pub record Opening : Type 0 where
-  pub name : List ℕ
-  pub written_before : List Output
+-- ---- the inputs
 
--- what a run does: the files that it opens, in their order; the ontology of its inputs, where all of them are read; the
--- files that it writes, in their order; and what ends it behind them, if anything is refused
-pub record Run : Type 0 where
-  pub openings : List Opening
-  pub merged : Option OntologyState
-  pub outputs : List Output
-  pub refusal : Option Fault
+-- the limits of a release
+abbrev pub release_limits : Limits
+release_limits = record { files = limits.files; bytes = limits.bytes; line = limits.line; seed_lines = limits.seed_lines; facts = limits.facts }
 
--- the most bytes that the files of a chain have together
-abbrev pub byte_limit : ℕ
-byte_limit = 268435456
+-- the inputs of a chain and what they import
+abbrev pub sources_of : Files → Chain → Loading (List SourceFile)
+sources_of files chain = reading files chain.inputs chain.catalog release_limits
 
--- the most bytes that a line has
-abbrev pub line_limit : ℕ
-line_limit = 1048576
+abbrev pub fault_of_load : LoadFault → Fault
+fault_of_load (load.MissingInput name) = fault.MissingInput name
+fault_of_load (load.MissingImport file line value) = fault.MissingImport file line value
+fault_of_load (load.TooManyFiles limit) = fault.TooManyFiles limit
+fault_of_load (load.TooManyBytes name limit) = fault.TooManyBytes name limit
+fault_of_load (load.CatalogLine file line) = fault.CatalogLine file line
+fault_of_load (load.ReadFault name) = fault.ReadFault name
+fault_of_load (load.NotUtf8 file line) = fault.NotUtf8 file line
+fault_of_load (load.LineTooLong file line) = fault.LineTooLong file line
+fault_of_load (load.Syntax file line kind) = fault.Syntax file line kind
+fault_of_load (load.NoId file line) = fault.NoId file line
+fault_of_load (load.ShortGroup file line) = fault.ShortGroup file line
+fault_of_load load.NoMemory = fault.NoMemory
 
--- what is wrong with a document, as the fault of the file that it is in. Want of memory is wrong with no document
-abbrev pub fault_in : List ℕ → DocFault → Fault
-fault_in file (doc.NotUtf8 line) = NotUtf8 file line
-fault_in file (doc.LineTooLong line) = LineTooLong file line
-fault_in file (doc.Syntax line kind) = Syntax file line kind
-fault_in file (doc.NoId line) = NoId file line
-fault_in file (doc.ShortGroup line) = ShortGroup file line
-fault_in file doc.NoMemory = NoMemory
+-- a file in the report
+abbrev pub dropped_entry : Dropped → ℕ × List ℕ
+dropped_entry report = (report.line, report.tag)
 
--- a run that opens the input and refuses
-abbrev pub refuses : Paths → Fault → Run
-refuses paths fault = record { openings = record { name = paths.input; written_before = [] } ∷ []; merged = None; outputs = []; refusal = Some fault }
+abbrev pub read_entry : FileNote → Entry
+read_entry note = entry.Read note.name note.frames (map dropped_entry note.dropped)
 
--- a run that opens the input and writes this ontology, the merged one, to the output
-abbrev pub writes : Paths → OntologyState → Run
-writes paths ontology = record {
-  openings = record { name = paths.input; written_before = [] } ∷ [];
-  merged = Some ontology;
-  outputs = record { name = paths.output; ontology = ontology; bytes = obo_text ontology } ∷ [];
-  refusal = None;
+-- behind the inputs: the merged axioms, in this order
+abbrev pub merged_trace : List FileNote → OntologyState → Trace
+merged_trace notes merged = record {
+  merged = merged;
+  ontology = merged;
+  scope = all_names;
+  files = map (λ (note : FileNote). note.name) notes;
+  entries = map read_entry notes ++ entry.Merged (counts_of (axioms_of merged.entries)) ∷ [];
 }
 
--- the run of a file's lines, by the least of them that is not built: without one it writes their ontology
-abbrev pub run_lines : Paths → List Line → Option ℕ → Run
-run_lines paths lines (Some line) = refuses paths (LineNotBuilt paths.input line)
-run_lines paths lines None = writes paths (ontology_of lines)
+-- where memory runs out before the axioms are merged, they stand in no order
+abbrev pub merged_in : Option OntologyState → List SourceFile → Result Trace Fault
+merged_in None sources = Err fault.NoMemory
+merged_in (Some merged) sources = Ok (merged_trace (map file_note sources) merged)
 
--- the run of a file with these lines, by its document or the first fault of it
-abbrev pub run_document : Paths → List Line → Result (List Placed) DocFault → Run
-run_document paths lines (Ok placed) = run_lines paths lines (unbuilt_line lines)
-run_document paths lines (Err one) = refuses paths (fault_in paths.input one)
+abbrev pub merged_or : Option OntologyState → Result (List SourceFile) LoadFault → Result Trace Fault
+merged_or merged (Ok sources) = merged_in merged sources
+merged_or merged (Err one) = Err (fault_of_load one)
 
--- the run of a file's bytes
-abbrev pub run_bytes : Paths → List ℕ → Run
-run_bytes paths bytes = run_document paths (lines_of bytes) (document_of line_limit bytes)
+abbrev pub load_part : Files → Option OntologyState → Chain → Part Trace
+load_part files merged chain = record {
+  acts = map (λ name. Opens name) (sources_of files chain).opened;
+  answer = merged_or merged (sources_of files chain).answer;
+}
 
--- the run of the input: it is held, and has no more bytes than the limit, or it is refused
-abbrev pub run_input : Paths → Option (List ℕ) → Run
-run_input paths None = refuses paths (MissingInput paths.input)
-run_input paths (Some bytes) =
-    if nat_le (length bytes) byte_limit then run_bytes paths bytes else refuses paths (TooManyBytes paths.input byte_limit)
+-- the axioms of the inputs, in some order, if the run comes so far
+abbrev pub IsOrder : Files → Chain → Option OntologyState → Type 0
+IsOrder files chain None = Unit {0}
+IsOrder files chain (Some merged) = IfOk (sources_of files chain).answer (λ sources. IsMerged sources merged)
 
--- the run of a chain, where the held files are told; wrong words are refused by themselves
-abbrev pub run_chain : Result Paths WrongWord → Option Files → Option Run
-run_chain (Err wrong) held = Some (record { openings = []; merged = None; outputs = []; refusal = Some (BadWord wrong.index wrong.kind) })
-run_chain (Ok paths) held = option_map (λ files. run_input paths (get files paths.input)) held
+-- ---- the steps
 
--- the run of the words over the files that a folder holds: none where it takes files that the folder does not tell
-abbrev pub run : List Word → Option Files → Option Run
-run words held = run_chain (chain words) held
+abbrev pub step_part : Files → Step → Trace → Part Trace
+step_part files (Extract method terms) trace = gives trace
+step_part files Reason trace = gives trace
+step_part files Relax trace = gives trace
+step_part files (Reduce keep) trace = gives trace
+step_part files Convert trace = gives trace
 
--- the files that are held after these outputs were put
-abbrev pub after_outputs : List Output → Files → Files
-after_outputs [] files = files
-after_outputs (output ∷ outputs) files = after_outputs outputs (insert files output.name output.bytes)
+-- ---- the outputs
+
+-- the name of the file to which an origin leads
+abbrev pub file_at : List Name → Origin → Name
+file_at files origin = unwrap_or (slice_get files origin.file) []
+
+-- two values that one frame would have, each with its place
+abbrev pub fault_of_two : List Name → TwoGiven → Fault
+fault_of_two files two =
+    fault.TwoValues two.first.iri two.first.tag two.first.text two.second.text (file_at files two.first.origin) two.first.origin.line
+    (file_at files two.second.origin) two.second.origin.line
+
+abbrev pub none_or : List Name → Option TwoGiven → Result (Unit {0}) Fault
+none_or files None = Ok tt
+none_or files (Some two) = Err (fault_of_two files two)
+
+-- whether the axioms can be written so
+abbrev pub checked : Wanted → Trace → Result (Unit {0}) Fault
+checked file trace = by_format file.format file.check trace
+  where
+    by_format : Format → Bool → Trace → Result (Unit {0}) Fault
+    by_format Obo check trace = none_or trace.files (two_values trace.ontology.name check trace.ontology.entries)
+    by_format Ofn check trace = Ok tt
+
+abbrev pub made_of : Wanted → Trace → Made
+made_of file trace = record { merged = trace.merged; ontology = trace.ontology; scope = trace.scope; format = file.format; check = file.check }
+
+abbrev pub output_of : Wanted → Trace → Output
+output_of file trace = record { name = file.name; made = made_of file trace }
+
+-- the report says how many bytes a file has
+abbrev pub with_written : Wanted → Trace → Trace
+with_written file trace = record trace { entries = trace.entries ++ entry.Written file.name (length (text_of file.format trace.ontology)) ∷ [] }
+
+abbrev pub write_part : Wanted → Trace → Part Trace
+write_part file trace = then_do (answers (checked file trace)) (λ _. then_do (puts (output_of file trace)) (λ _. gives (with_written file trace)))
+
+abbrev pub output_part : Option Wanted → Trace → Part Trace
+output_part None trace = gives trace
+output_part (Some file) trace = write_part file trace
+
+-- ---- the chain
+
+-- a step, and then its output
+abbrev pub turn_part : Files → Step × Option Wanted → Trace → Part Trace
+turn_part files turn trace = then_do (step_part files turn.0 trace) (output_part turn.1)
+
+abbrev pub steps_part : Files → List (Step × Option Wanted) → Trace → Part Trace
+steps_part files [] trace = gives trace
+steps_part files (turn ∷ turns) trace = then_do (turn_part files turn trace) (steps_part files turns)
+
+abbrev pub chain_part : Files → Option OntologyState → Chain → Part Trace
+chain_part files merged chain = then_do (then_do (load_part files merged chain) (output_part chain.first)) (steps_part files chain.steps)
+
+-- ---- the words
+
+abbrev pub is_built : Step → Bool
+is_built Convert = true
+is_built other = false
+
+-- the least step that is not supported yet, counted from this number
+abbrev pub first_unbuilt : ℕ → List (Step × Option Wanted) → Option ℕ
+first_unbuilt at [] = None
+first_unbuilt at (turn ∷ turns) = if is_built turn.0 then first_unbuilt (at + 1) turns else Some at
+
+abbrev pub built_or : Option ℕ → Chain → Result Chain Fault
+built_or None told = Ok told
+built_or (Some at) told = Err (fault.StepNotBuilt at)
+
+-- the chain that the words ask for, or the fault of words that ask for none that is supported
+abbrev pub asked_by : Reading Command → Result Chain Fault
+asked_by (Err bad) = Err (fault.BadWord bad.index bad.kind)
+asked_by (Ok (Generate size)) = Err (fault.StepNotBuilt 0)
+asked_by (Ok (Run told)) = built_or (first_unbuilt 1 told.steps) told
+
+abbrev pub asked : List Word → Result Chain Fault
+asked words = asked_by (chain words)
+
+-- ---- the run
+
+-- this is said of the run of a chain over these files, where the merged axioms stand in some order
+pub record OfChain (files : Files) (chain : Chain) (Says : Part Trace → Type 0) : Type 0 where
+  pub merged : Option OntologyState
+  pub order : IsOrder files chain merged
+  pub says : Says (chain_part files merged chain)
+
+abbrev pub OfTold : Result Chain Fault → Option Files → (Part Trace → Type 0) → Type 0
+OfTold (Err refusal) held Says = Says (answers (Err refusal))
+OfTold (Ok chain) None Says = Unit {0}
+OfTold (Ok chain) (Some files) Says = OfChain files chain Says
+
+-- this is said of the run of the words over the files that a folder holds: of wrong words always, and of a chain where the
+-- folder tells what it holds
+abbrev pub OfRun : List Word → Option Files → (Part Trace → Type 0) → Type 0
+OfRun words held Says = OfTold (asked words) held Says

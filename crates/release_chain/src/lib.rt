@@ -1,15 +1,19 @@
-//! The one top call. `release` takes the words of the command line and the outside, and does all that the
-//! program does: it reads the words, reads the input from the folder, refuses its first fault and else the least
-//! line that is not built, and puts the output. Its contract says of every ending what was written, and why it came.
+//! The one top call. `release` takes the words of the command line and the outside, and does all that the program does: it
+//! reads the words, reads and merges the inputs, does the steps, writes the outputs, and reports. Its contract says of every
+//! ending what was written, and why it came.
+//!
+//! What a run does is put together of parts (`specs/Part`), and each function here that touches the folder ends as its part
+//! does (`specs/Ending`). A step brings a line in `step_part` (`specs/Run`), a function in `steps`, and a line of the report;
+//! its own crate brings that what it makes keeps what was there over its scope, and that each axiom has a form in OBO.
 #![tactic(auto)]
 
 mod chain;
-mod fault;
-mod laws;
+mod ended;
+mod inputs;
+mod output;
 mod program;
-mod words;
+mod steps;
+mod work;
 
-pub use fault::{Ended, Fault, WordKind};
-pub use import_closure::{FileFault, read_file};
-pub use laws::chains_are_accepted;
+pub use ended::Ended;
 pub use program::release;

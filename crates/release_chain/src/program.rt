@@ -1,21 +1,103 @@
 //! `release`: all that the program does.
-ghost use Rattle.std.specs.Prelude.{◌≡◌, ◌≢◌, ◌↔◌, IsSome, map};
+ghost use Rattle.std.specs.Prelude.{◌≡◌, ◌≢◌, ◌↔◌, ◌<◌, IsSome, length, map};
 ghost use Rattle.std.specs.String.{string_bytes};
-ghost use Rattle.release_chain.specs.Fault.{status_of_ending};
-ghost use Rattle.release_chain.specs.Release.{BadWordsRefused, Complete, MemoryRanOut, MissesCounted, NothingElse, ReadFaults, Refused, Released, WriteFaults};
+ghost use Rattle.release_chain.specs.Release.{Complete, Counts, ErrEnds, NothingElse, OutEnds, Released, Stops, WordsRefused, outside};
+ghost use Rattle.release_chain.specs.Run as spec;
+ghost use Rattle.release_chain.specs.Run.{asked, first_unbuilt};
+ghost use Rattle.release_chain.specs.Status.{status_of_ending};
+ghost use Rattle.release_chain.specs.inner.Finish.{Asks, Finishes, IsAsked, WordsEnd};
 
 use crate::Ended;
-use crate::chain::run_words;
+use crate::chain::run_chain;
+use crate::work::Work;
+use chain_words::{
+    Chain, Command, Output, Step, chains_are_well_formed, outputs_stand_apart, read_words,
+};
 use rel_io::{Folder, Sink};
+use release_report::{Fault, report_text, write_fault};
 use std::alloc::Global;
+
+/// Whether a step is supported.
+fn is_built(step: &Step) -> bool
+    ensures { result ≡ spec.is_built step.now }
+{
+    matches!(step, Step::Convert)
+}
+
+/// The least step that is not supported yet; `merge` is step 0.
+fn first_unbuilt(turns: &[(Step, Option<Output>)]) -> Option<u32>
+    requires { length turns.now < 64 }
+    ensures { result ≡ first_unbuilt 1 turns.now }
+{
+    for index in 0..turns.len() {
+        if !is_built(&turns[index].0) {
+            return Some(index as u32 + 1);
+        }
+    }
+    None
+}
+
+/// The chain that the words ask for.
+fn ask(alloc: Global, words: &Vec<String>) -> Result<Chain, Fault>
+    ensures { Asks (asked (map string_bytes words.now.items)) result }
+{
+    match read_words(alloc, words)? {
+        Command::Generate(_) => Err(Fault::StepNotBuilt { step: 0 }),
+        Command::Run(chain) => built(words, chain),
+    }
+}
+
+/// The chain, where all its steps are supported.
+fn built(words: &Vec<String>, chain: Chain) -> Result<Chain, Fault>
+    requires { IsAsked (map string_bytes words.now.items) chain }
+    ensures { Asks (asked (map string_bytes words.now.items)) result }
+{
+    outputs_stand_apart(words, &chain);
+    chains_are_well_formed(words, &chain);
+    match first_unbuilt(chain.steps.as_slice()) {
+        None => Ok(chain),
+        Some(step) => {
+            drop(chain);
+            Err(Fault::StepNotBuilt { step })
+        }
+    }
+}
+
+/// Runs what the words ask for.
+fn run_words<F: Folder>(alloc: Global, words: &Vec<String>, folder: &mut F) -> Result<Work, Fault>
+    ensures { WordsEnd (asked (map string_bytes words.now.items)) (F.state folder.old) result (F.state folder.new) }
+{
+    let chain = ask(alloc, words)?;
+    run_chain(alloc, folder, &chain)
+}
+
+/// Runs what the words ask for, and reports it.
+fn finish<F: Folder, O: Sink>(
+    alloc: Global,
+    words: &Vec<String>,
+    folder: &mut F,
+    out: &mut O,
+) -> Result<(), Fault>
+    ensures { Finishes (asked (map string_bytes words.now.items)) (F.state folder.old) (O.state out.old) result (F.state folder.new) (O.state out.new) }
+{
+    let work = run_words(alloc, words, folder)?;
+    let entries = work.entries.into_vec();
+    let report = report_text(alloc, &entries)?;
+    match out.write_all(report.as_slice()) {
+        Ok(()) => Ok(()),
+        Err(_) => Err(Fault::SinkFault),
+    }
+}
 
 /// Does all that the program does, and says how it ended. `words` are those behind the program's name.
 ///
-/// If it ends with status 0, each file that it wrote is the text of axioms that are the merged ones (`released`), and
-/// nothing else in the folder changed (`nothing_else`). Every other ending names its cause (`refused`, `misses`,
-/// `read_faults`, `write_faults`, `memory`). Where nothing outside failed and memory was there, it ends with status 0 or
-/// with the one refusal of the run (`complete`), and wrong words are refused in any case (`bad_words`). What is said of
-/// files is said over a folder that tells what it holds. Nothing is written to `out` and to `err` yet.
+/// If it ends with status 0, each file that it wrote is the text of axioms that follow from the merged axioms, and every
+/// finite model of them agrees, on the same domain, over the names common to all seeds before it, with a model of the merged
+/// axioms (`released`); and nothing else in the folder changed (`nothing_else`). Every other ending names its cause, with
+/// the count that rose in this call (`counts`) and the place where the run stopped (`stops`). Where nothing outside failed
+/// and memory was there, it ends with status 0 or with the one refusal of the run (`complete`), and wrong words are refused
+/// in any case (`words`). The report goes to `out` where all is done (`out`), and the text of a fault to `err` (`err`). What
+/// is said of files is said over a folder that tells what it holds.
 pub fn release<F: Folder, O: Sink, E: Sink>(
     alloc: Global,
     words: &Vec<String>,
@@ -23,23 +105,25 @@ pub fn release<F: Folder, O: Sink, E: Sink>(
     out: &mut O,
     err: &mut E,
 ) -> Ended
-    ensures released { Released (map string_bytes words.now.items) (F.state folder.old) result.fault (F.state folder.new) }
-    ensures nothing_else { NothingElse (map string_bytes words.now.items) (F.state folder.old) result.fault (F.state folder.new) }
+    ensures released { Released (map string_bytes words.now.items) (outside (F.state folder.old) (O.state out.old) (E.state err.old)) result.fault (outside (F.state folder.new) (O.state out.new) (E.state err.new)) }
+    ensures nothing_else { NothingElse (map string_bytes words.now.items) (outside (F.state folder.old) (O.state out.old) (E.state err.old)) result.fault (outside (F.state folder.new) (O.state out.new) (E.state err.new)) }
 
-    ensures refused { Refused (map string_bytes words.now.items) (F.state folder.old) result.fault (F.state folder.new) }
-    ensures misses { MissesCounted (F.state folder.old) result.fault (F.state folder.new) }
-    ensures read_faults { ReadFaults (map string_bytes words.now.items) (F.state folder.old) result.fault (F.state folder.new) }
-    ensures write_faults { WriteFaults (map string_bytes words.now.items) (F.state folder.old) result.fault (F.state folder.new) }
-    ensures memory { MemoryRanOut (map string_bytes words.now.items) (F.state folder.old) result.fault (F.state folder.new) }
+    ensures counts { Counts result.fault (outside (F.state folder.old) (O.state out.old) (E.state err.old)) (outside (F.state folder.new) (O.state out.new) (E.state err.new)) }
+    ensures stops { Stops (map string_bytes words.now.items) (outside (F.state folder.old) (O.state out.old) (E.state err.old)) result.fault (outside (F.state folder.new) (O.state out.new) (E.state err.new)) }
 
-    ensures complete { Complete (map string_bytes words.now.items) (F.state folder.old) (O.state out.old) result.fault (F.state folder.new) (O.state out.new) }
-    ensures bad_words { BadWordsRefused (map string_bytes words.now.items) (F.state folder.old) result.fault (F.state folder.new) }
+    ensures complete { Complete (map string_bytes words.now.items) (outside (F.state folder.old) (O.state out.old) (E.state err.old)) result.fault (outside (F.state folder.new) (O.state out.new) (E.state err.new)) }
+    ensures words { WordsRefused (map string_bytes words.now.items) (outside (F.state folder.old) (O.state out.old) (E.state err.old)) result.fault (outside (F.state folder.new) (O.state out.new) (E.state err.new)) }
 
     ensures status { result.status ≡ status_of_ending result.fault }
     ensures faulty { IsSome result.fault ↔ (result.status ≢ 0) }
-    ensures out { O.state out.new ≡ O.state out.old }
-    ensures err { E.state err.new ≡ E.state err.old }
+    ensures out { OutEnds (map string_bytes words.now.items) (outside (F.state folder.old) (O.state out.old) (E.state err.old)) result.fault (outside (F.state folder.new) (O.state out.new) (E.state err.new)) }
+    ensures err { ErrEnds (outside (F.state folder.old) (O.state out.old) (E.state err.old)) result.fault (outside (F.state folder.new) (O.state out.new) (E.state err.new)) }
 {
-    let fault = run_words(alloc, words.as_slice(), folder).err();
-    Ended::with(fault)
+    match finish(alloc, words, folder, out) {
+        Ok(()) => Ended::with(None),
+        Err(fault) => {
+            let _told = write_fault(&fault, err);
+            Ended::with(Some(fault))
+        }
+    }
 }

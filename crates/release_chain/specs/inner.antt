@@ -1,0 +1,5 @@
+pub mod Counting
+pub mod Finish
+pub mod Names
+pub mod Texts
+pub mod Work
