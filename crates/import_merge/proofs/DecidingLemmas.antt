@@ -67,9 +67,9 @@ noted_held [] other n a note = absurd note
 noted_held (first ∷ others) other n a note = n.all zero first a refl note.1
 
 moved_over : (sources others : List SourceFile) (one other : OntologyState)
-  → ((source : SourceFile) → In source sources → In source others)
-  → ((a : Axiom) → IsNoted sources a → IsNoted others a)
-  → IsMerged sources one → IsMerged others other → (a : Axiom) → IsHeld a one.entries → IsHeld a other.entries
+    → ((source : SourceFile) → In source sources → In source others)
+    → ((a : Axiom) → IsNoted sources a → IsNoted others a)
+    → IsMerged sources one → IsMerged others other → (a : Axiom) → IsHeld a one.entries → IsHeld a other.entries
 moved_over sources others one other files notes m n a held =
     let e = In-from_map (λ (x : Entry). x.axiom) a one.entries (In-from_contains a (axioms_of one.entries) held) in
     let g = given_same sources e.0 a e.2 (m.given e.0 e.1) in

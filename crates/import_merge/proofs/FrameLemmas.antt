@@ -1,5 +1,5 @@
 -- The frames of a document, one clause after the other, and how many they are.
-use Rattle.std.proofs.Common.{◌≡◌, ◌∙◌, ℕ, ◌<◌, suc, List, [], ◌∷◌, ◌++◌, filter, get_or, length, map, take, refl, sym, ap}
+use Rattle.std.proofs.Common.{◌≡◌, ◌∙◌, ℕ, ◌<◌, ◌+◌, suc, List, [], ◌∷◌, ◌++◌, filter, get_or, length, map, take, sym, ap, arith}
 use Rattle.std.proofs.Math.Seq.{take-suc}
 use Rattle.std.proofs.lemmas.List.{length-map, map-append}
 use Rattle.std.proofs.lemmas.List.Elements.{filter-append}
@@ -22,13 +22,14 @@ keys_in-append space some others =
     ∙ map-append (frame_key space) (filter is_naming (map unlined some)) (filter is_naming (map unlined others))
 
 pub frames_next : (space : List ℕ) (placed : List Placed) (at : ℕ) (one : Placed) (old new : List FrameName)
-  → at < length placed → one ≡ get_or placed at one
-  → map text_of old ≡ keys_in space (take at placed) → map text_of new ≡ map text_of old ++ keys_in space (one ∷ []) → map text_of new ≡ keys_in space (take (suc at) placed)
+    → at < length placed → one ≡ get_or placed at one
+    → map text_of old ≡ keys_in space (take at placed) → map text_of new ≡ map text_of old ++ keys_in space (one ∷ []) → map text_of new ≡ keys_in space (take (at + 1) placed)
 frames_next space placed at one old new within is before more =
+    let next : suc at ≡ at + 1 = omega arith in
     more
     ∙ ap (λ keys. keys ++ keys_in space (one ∷ [])) before
     ∙ sym (keys_in-append space (take at placed) (one ∷ []))
-    ∙ ap (keys_in space) (ap (λ (x : Placed). take at placed ++ x ∷ []) is ∙ sym (take-suc placed at one within))
+    ∙ ap (keys_in space) (ap (λ (x : Placed). take at placed ++ x ∷ []) is ∙ sym (take-suc placed at one within) ∙ ap (λ n. take n placed) next)
 
 -- the same keys are as many
 pub counted : {X Y : Type 0} (key : X → List ℕ) (text : Y → List ℕ) (xs : List X) (ys : List Y) → map text ys ≡ map key xs → length (sorted_by text ys) ≡ length (sorted_by key xs)

@@ -77,32 +77,32 @@ first_name-more (first ∷ sources) source name is some = is
 -- ---- the ontology of one file more
 
 pub merged_next : (sources : List SourceFile) (source : SourceFile) (old new : OntologyState) (added : List Entry)
-  → new.name ≡ first_name (sources ++ source ∷ []) → AreOf (length sources) source added → AreJoined old.entries added new.entries
-  → IsMerged sources old → IsMerged (sources ++ source ∷ []) new
+    → new.name ≡ first_name (sources ++ source ∷ []) → AreOf (length sources) source added → AreJoined old.entries added new.entries
+    → IsMerged sources old → IsMerged (sources ++ source ∷ []) new
 merged_next sources source old new added name o j m = record {
   name = name;
   given = λ e here.
-    ⊎_elim
-    (λ before. given-before sources source e (m.given e before))
-    (λ last. given-last sources source e (o.placed e last) (o.given e last))
-    (j.from e here);
+      ⊎_elim
+      (λ before. given-before sources source e (m.given e before))
+      (λ last. given-last sources source e (o.placed e last) (o.given e last))
+      (j.from e here);
   least = λ e here other g.
-    ⊎_elim
-    (λ (before : IsGiven sources (entry_of e.axiom other)).
-    let f = In-from_map (λ (x : Entry). x.axiom) e.axiom old.entries (m.all other.file before.source e.axiom before.there before.given) in
-    before-through other f.0.origin e.origin
-    (m.least f.0 f.1 other (given_same sources (entry_of e.axiom other) f.0.axiom (sym f.2) before))
-    (j.least e here f.0 (inl f.1) f.2))
-    (λ (last : IsOfLast sources source (entry_of e.axiom other)).
-    let f = In-from_map (λ (x : Entry). x.axiom) e.axiom added (o.all e.axiom last.given) in
-    subst (λ origin. comes_before origin e.origin ≡ false) (one_origin sources source e.axiom other f.0 last (o.placed f.0 f.1) f.2)
-    (j.least e here f.0 (inr f.1) f.2))
-    (given-cases sources source (entry_of e.axiom other) g);
+      ⊎_elim
+      (λ (before : IsGiven sources (entry_of e.axiom other)).
+      let f = In-from_map (λ (x : Entry). x.axiom) e.axiom old.entries (m.all other.file before.source e.axiom before.there before.given) in
+      before-through other f.0.origin e.origin
+      (m.least f.0 f.1 other (given_same sources (entry_of e.axiom other) f.0.axiom (sym f.2) before))
+      (j.least e here f.0 (inl f.1) f.2))
+      (λ (last : IsOfLast sources source (entry_of e.axiom other)).
+      let f = In-from_map (λ (x : Entry). x.axiom) e.axiom added (o.all e.axiom last.given) in
+      subst (λ origin. comes_before origin e.origin ≡ false) (one_origin sources source e.axiom other f.0 last (o.placed f.0 f.1) f.2)
+      (j.least e here f.0 (inr f.1) f.2))
+      (given-cases sources source (entry_of e.axiom other) g);
   all = λ place one a there given.
-    ⊎_elim
-    (λ before. j.all a (inl (m.all place one a before given)))
-    (λ last. j.all a (inr (o.all a (subst (λ n. In a (given_by n source)) last.0 (subst (λ s. In a (given_by place s)) (sym last.1) given)))))
-    (place-cases sources source place one there);
+      ⊎_elim
+      (λ before. j.all a (inl (m.all place one a before given)))
+      (λ last. j.all a (inr (o.all a (subst (λ n. In a (given_by n source)) last.0 (subst (λ s. In a (given_by place s)) (sym last.1) given)))))
+      (place-cases sources source place one there);
 }
 
 -- ---- the first file

@@ -46,7 +46,7 @@ moved-last rest e =
 pub moved_then : (o : OntologyState) (rest : List Entry) (e : Entry) → with_moved (with_moved o (e ∷ [])) rest ≡ with_moved o (rest ++ e ∷ [])
 moved_then o rest e =
     let same : add_entries (add_entries o.entries (moved (e ∷ []))) (moved rest) ≡ add_entries o.entries (moved (rest ++ e ∷ [])) =
-      sym (add_entries-append o.entries (moved (e ∷ [])) (moved rest)) ∙ ap (add_entries o.entries) (sym (moved-last rest e)) in
+    sym (add_entries-append o.entries (moved (e ∷ [])) (moved rest)) ∙ ap (add_entries o.entries) (sym (moved-last rest e)) in
     λ i. record { name = o.name; entries = same i }
 
 -- ---- a file behind the first
@@ -55,15 +55,15 @@ joined : (old added : List Entry) → AreDifferent old → AreJoined old added (
 joined old added apart = record {
   from = λ e here. In-append e old added (In-from_contains e (old ++ added) (least_stays old added apart e (contains-from_In e (add_entries old added) here)).given);
   least = λ e here other there same.
-    (least_stays old added apart e (contains-from_In e (add_entries old added) here)).least other.origin
-    (contains-from_In (entry_of e.axiom other.origin) (old ++ added)
-    (subst (λ a. In (entry_of a other.origin) (old ++ added)) same
-    (⊎_elim (λ before. In-append_left other old added before) (λ later. In-append_right other old added later) there)));
+      (least_stays old added apart e (contains-from_In e (add_entries old added) here)).least other.origin
+      (contains-from_In (entry_of e.axiom other.origin) (old ++ added)
+      (subst (λ a. In (entry_of a other.origin) (old ++ added)) same
+      (⊎_elim (λ before. In-append_left other old added before) (λ later. In-append_right other old added later) there)));
   all = λ a there. In-from_contains a (axioms_of (add_entries old added))
-    (⊎_elim
-    (λ before. all_held_stays old added a (contains-from_In a (axioms_of old) before))
-    (λ later. all_added_is_held old added a (contains-from_In a (axioms_of added) later))
-    there);
+      (⊎_elim
+      (λ before. all_held_stays old added a (contains-from_In a (axioms_of old) before))
+      (λ later. all_added_is_held old added a (contains-from_In a (axioms_of added) later))
+      there);
 }
 
 given_later : (place : ℕ) (source : SourceFile) → (place ≡ zero → ⊥) → given_by place source ≡ filter (λ one. not (is_ontology_note one)) (said_in source)
@@ -85,14 +85,14 @@ moved_of : (place : ℕ) (source : SourceFile) (entries : List Entry) → (place
 moved_of place source entries later said = record {
   placed = λ e here. said.placed e (in_moved e entries here).0;
   given = λ e here.
-    let there = in_moved e entries here in
-    subst (In e.axiom) (sym (given_later place source later))
-    (In-filter (λ one. not (is_ontology_note one)) e.axiom (said_in source) ((said.same e.axiom).0 (In-map (λ (x : Entry). x.axiom) e entries there.0)) there.1);
+      let there = in_moved e entries here in
+      subst (In e.axiom) (sym (given_later place source later))
+      (In-filter (λ one. not (is_ontology_note one)) e.axiom (said_in source) ((said.same e.axiom).0 (In-map (λ (x : Entry). x.axiom) e entries there.0)) there.1);
   all = λ a given.
-    let parts = In-from_filter (λ one. not (is_ontology_note one)) a (said_in source) (subst (In a) (given_later place source later) given) in
-    let f = In-from_map (λ (x : Entry). x.axiom) a entries ((said.same a).1 parts.0) in
-    subst (λ x. In x (axioms_of (moved entries))) f.2
-    (In-map (λ (x : Entry). x.axiom) f.0 (moved entries) (moved_in f.0 entries f.1 (subst (λ x. not (is_ontology_note x) ≡ true) (sym f.2) parts.1)));
+      let parts = In-from_filter (λ one. not (is_ontology_note one)) a (said_in source) (subst (In a) (given_later place source later) given) in
+      let f = In-from_map (λ (x : Entry). x.axiom) a entries ((said.same a).1 parts.0) in
+      subst (λ x. In x (axioms_of (moved entries))) f.2
+      (In-map (λ (x : Entry). x.axiom) f.0 (moved entries) (moved_in f.0 entries f.1 (subst (λ x. not (is_ontology_note x) ≡ true) (sym f.2) parts.1)));
 }
 
 -- ---- the first file
@@ -115,15 +115,15 @@ taken_over : (o : OntologyState) (source : SourceFile) (entries : List Entry) �
 taken_over o source entries m said = record {
   from = λ e here. inr here;
   least = λ e here other there same.
-    ⊎_elim
-    (λ before. absurd (no_entry o m other before))
-    (λ later. subst (λ origin. comes_before origin e.origin ≡ false) (sym (one_place source e other (said.placed e here) (said.placed other later) same)) (before-itself e.origin))
-    there;
+      ⊎_elim
+      (λ before. absurd (no_entry o m other before))
+      (λ later. subst (λ origin. comes_before origin e.origin ≡ false) (sym (one_place source e other (said.placed e here) (said.placed other later) same)) (before-itself e.origin))
+      there;
   all = λ a there.
-    ⊎_elim
-    (λ before. let f = In-from_map (λ (x : Entry). x.axiom) a o.entries before in absurd (no_entry o m f.0 f.1))
-    (λ later. later)
-    there;
+      ⊎_elim
+      (λ before. let f = In-from_map (λ (x : Entry). x.axiom) a o.entries before in absurd (no_entry o m f.0 f.1))
+      (λ later. later)
+      there;
 }
 
 -- ---- the documents

@@ -66,9 +66,11 @@ fn put(ontology: &mut Ontology, said: Axiom, origin: Origin) -> Result<(), NoMem
     requires { IsProper said }
     ensures { OnOk result (ontology.new ≡ with_moved ontology.old (entry_of said origin ∷ [])) }
 {
-    if !is_ontology_note(&said) {
-        ontology.add(said, origin)?;
+    if is_ontology_note(&said) {
+        drop(said);
+        return Ok(());
     }
+    ontology.add(said, origin)?;
     Ok(())
 }
 

@@ -12,7 +12,12 @@ pub fn next_word(text: &str) -> (&str, &str) {
 }
 
 /// A folder with these files, which gives pieces of a length and fails at one call.
-pub fn folder_with(alloc: Global, files: &str, piece: usize, call: u64) -> Result<MemFolder, NoMemory>
+pub fn folder_with(
+    alloc: Global,
+    files: &str,
+    piece: usize,
+    call: u64,
+) -> Result<MemFolder, NoMemory>
     requires { 1 ≤ piece }
 {
     let mut held = Vec::new(alloc);
