@@ -1,2 +1,4 @@
-//! Which files are read.
+//! Which files are read, and what they come to.
+mod ground;
 mod imports;
+mod merged;

@@ -1,9 +1,10 @@
 //! The files of a run over a folder in memory: the inputs, what they import, and what is refused first, with answers worked
 //! out by hand from the rules.
-ghost use Rattle.std.specs.Prelude.{◌≤◌, ◌<◌, ◌+◌, ◌^◌};
+ghost use Rattle.std.specs.Prelude.{◌<◌, ◌+◌, ◌^◌};
 
-use document_examples::{bytes_of, is_copied, push, wrong_in};
-use import_closure::{LoadFault, SourceFile, read_files};
+use super::ground::{folder_with, names_in, next_word, shown_fault};
+use document_examples::{push, wrong_in};
+use import_closure::{SourceFile, read_files};
 use rel_io::{Bytes, Limits, MemFolder, NoMemory};
 use std::alloc::Global;
 use std::test::Fail;
@@ -97,27 +98,6 @@ fn listed(alloc: Global, example: &str) -> Result<Vec<u8>, NoMemory> {
     read(alloc, &mut folder, inputs, catalog, &limits)
 }
 
-/// A word and what stands behind its blank.
-fn next_word(text: &str) -> (&str, &str) {
-    text.split_once(' ').unwrap_or((text, ""))
-}
-
-/// A folder with these files, which gives pieces of a length and fails at one call.
-fn folder_with(alloc: Global, files: &str, piece: usize, call: u64) -> Result<MemFolder, NoMemory>
-    requires { 1 ≤ piece }
-{
-    let mut held = Vec::new(alloc);
-    for file in files.split("; ") {
-        let (name, content) = file.split_once('=').unwrap_or((file, ""));
-        let name = Bytes::from_slice(alloc, name.as_bytes())?;
-        let content = Bytes::from_vec(bytes_of(alloc, content)?);
-        held.push((name, content))?;
-    }
-    let mut failing = Vec::new(alloc);
-    failing.push(call)?;
-    Ok(MemFolder::new(alloc, held, piece, failing))
-}
-
 /// What reading these inputs gives.
 fn read(
     alloc: Global,
@@ -128,10 +108,7 @@ fn read(
 ) -> Result<Vec<u8>, NoMemory>
     requires { limits.now.bytes + 1 < 2 ^ 32 }
 {
-    let mut names = Vec::new(alloc);
-    for name in inputs.split(',') {
-        names.push(Bytes::from_slice(alloc, name.as_bytes())?)?;
-    }
+    let names = names_in(alloc, inputs)?;
     let catalog_name = Bytes::from_slice(alloc, catalog.as_bytes())?;
     let catalog = if catalog == "-" {
         None
@@ -154,58 +131,4 @@ fn shown(alloc: Global, sources: &[SourceFile]) -> Result<Vec<u8>, NoMemory> {
         push(&mut text, source.name.as_slice())?;
     }
     Ok(text)
-}
-
-/// The name of a fault, its file, its number, and what else it has, where a copy is equal to it.
-fn shown_fault(alloc: Global, fault: &LoadFault) -> Result<Vec<u8>, NoMemory> {
-    let mut text = Vec::new(alloc);
-    if !is_copied(alloc, fault)? {
-        return Ok(text);
-    }
-    let (name, file, number) = parts_of(fault);
-    push(&mut text, name)?;
-    if let Some(file) = file {
-        push(&mut text, b" ")?;
-        push(&mut text, file.as_slice())?;
-    }
-    if let Some(number) = number {
-        push(&mut text, format!(in alloc; " {number}")?.as_bytes())?;
-    }
-    match fault {
-        LoadFault::MissingImport { value, .. } => {
-            push(&mut text, b" ")?;
-            push(&mut text, value.as_slice())?;
-        }
-        LoadFault::Syntax { kind, .. } => {
-            push(&mut text, format!(in alloc; " {kind:?}")?.as_bytes())?
-        }
-        _ => {}
-    }
-    Ok(text)
-}
-
-/// The name of a fault, its file, and its number.
-fn parts_of(fault: &LoadFault) -> (&'static [u8], Option<&Bytes>, Option<u64>) {
-    match fault {
-        LoadFault::MissingInput { name } => (b"MissingInput", Some(name), None),
-        LoadFault::MissingImport { file, line, .. } => {
-            (b"MissingImport", Some(file), Some(u64::from(*line)))
-        }
-        LoadFault::TooManyFiles { limit } => (b"TooManyFiles", None, Some(u64::from(*limit))),
-        LoadFault::TooManyBytes { name, limit } => (b"TooManyBytes", Some(name), Some(*limit)),
-        LoadFault::CatalogLine { file, line } => {
-            (b"CatalogLine", Some(file), Some(u64::from(*line)))
-        }
-        LoadFault::ReadFault { name } => (b"ReadFault", Some(name), None),
-        LoadFault::NotUtf8 { file, line } => (b"NotUtf8", Some(file), Some(u64::from(*line))),
-        LoadFault::LineTooLong { file, line } => {
-            (b"LineTooLong", Some(file), Some(u64::from(*line)))
-        }
-        LoadFault::Syntax { file, line, .. } => (b"Syntax", Some(file), Some(u64::from(*line))),
-        LoadFault::NoId { file, line } => (b"NoId", Some(file), Some(u64::from(*line))),
-        LoadFault::ShortGroup { file, line } => {
-            (b"ShortGroup", Some(file), Some(u64::from(*line)))
-        }
-        LoadFault::NoMemory => (b"NoMemory", None, None),
-    }
 }

@@ -1,0 +1,5 @@
+pub mod DecidingLemmas
+pub mod FrameLemmas
+pub mod MergeLemmas
+pub mod MoveLemmas
+pub mod PlaceLemmas

@@ -1,0 +1,71 @@
+//! `load`: the ontology of a run's files.
+ghost use Rattle.std.specs.Prelude.{◌≡◌, ◌+◌, ◌^◌, ◌<◌, IfOk, OnOk, length};
+ghost use Rattle.std.specs.Option.{option_copied};
+ghost use Rattle.rel_io.specs.FolderState.{NoCountFell};
+ghost use Rattle.import_closure.specs.Closure.{reading};
+ghost use Rattle.import_closure.specs.Loading.{LoadsAs};
+ghost use Rattle.import_merge.specs.Notes.{IsLoaded, file_note};
+ghost use Rattle.import_merge.specs.inner.Joining.{Joins};
+
+use crate::frames::frame_count;
+use crate::joining::join;
+use crate::{FileNote, Merged};
+use import_closure::{LoadFault, SourceFile, read_files};
+use owl_ontology::Ontology;
+use rel_io::{Bytes, Dup, Folder, Items, Limits, NoMemory};
+use std::alloc::Global;
+
+/// The ontology of the inputs and what they import, with a note of each file, in the order in which they are read; or the
+/// first refusal of `read_files`. The first file's ontology is taken over, and the axioms of the others are moved into it,
+/// so the time goes by the bytes that are read, but for sorts.
+pub fn load<F: Folder>(
+    alloc: Global,
+    folder: &mut F,
+    inputs: &[Bytes],
+    catalog: Option<&Bytes>,
+    limits: &Limits,
+) -> Result<Merged, LoadFault>
+    requires few { limits.now.bytes + 1 < 2 ^ 32 }
+    ensures loads { LoadsAs IsLoaded (λ files. reading files inputs.now (option_copied catalog.entry) limits.now) (F.state folder.old) result (F.state folder.new) }
+    ensures holds { (F.state folder.new).holds ≡ (F.state folder.old).holds }
+    ensures counts { NoCountFell (F.state folder.old) (F.state folder.new) }
+{
+    let sources = read_files(alloc, folder, inputs, catalog, limits)?;
+    let merged = merged(alloc, sources.as_slice())?;
+    Ok(merged)
+}
+
+/// The ontology of files, with a note of each.
+fn merged(alloc: Global, sources: &[SourceFile]) -> Result<Merged, NoMemory>
+    requires few { length sources.now < 2 ^ 32 }
+    ensures { IfOk result (IsLoaded sources.now) }
+{
+    let mut ontology = Ontology::new(alloc, None)?;
+    let mut files = Vec::with_capacity(alloc, sources.len())?;
+    for place in 0..sources.len() {
+        let note = join_file(alloc, &mut ontology, &sources[place], place as u32)?;
+        files.push(note)?;
+    }
+    let files = Items::from_vec(files);
+    Ok(Merged { ontology, files })
+}
+
+/// Merges a file into the ontology of those before it, and notes what it has.
+fn join_file(
+    alloc: Global,
+    ontology: &mut Ontology,
+    source: &SourceFile,
+    place: u32,
+) -> Result<FileNote, NoMemory>
+    ensures joins { OnOk result (Joins place source.now.document ontology.old ontology.new) }
+    ensures note { IfOk result (λ note. note ≡ file_note source.now) }
+{
+    let dropped = join(alloc, ontology, &source.document, place)?;
+    let frames = frame_count(alloc, &source.document)?;
+    let name = source.name.copy(alloc)?;
+    Ok(FileNote {
+        name,
+        frames,
+        dropped,
+    })
+}
