@@ -1,0 +1,7 @@
+pub mod Forms
+pub mod Gathering
+pub mod Homes
+pub mod Matching
+pub mod NotesAlike
+pub mod SameIds
+pub mod StatementsAlike
