@@ -1,4 +1,4 @@
--- An axiom that has clauses keeps them under another name of the ontology and where more is declared.
+-- An axiom that has clauses keeps them under another name of the ontology, where its anchors stay declared.
 use Rattle.std.proofs.Common.{◌≡◌, ◌⊎◌, ℕ, Bool, true, false, List, [], ◌∷◌, map, Option, None, Some, inl, inr, ⊎_elim, refl, sym, subst}
 use Rattle.std.specs.List.{filter_map}
 use Rattle.std.specs.Option.{IsSome, option_and_then, option_map, option_or}
@@ -6,6 +6,7 @@ use Rattle.obo_tags.specs.declared.kind.FrameKind.TheVariants.{Header, Term}
 use Rattle.owl_axioms.specs.declared.body.Axiom.{Axiom}
 use Rattle.owl_axioms.specs.declared.body.Body.{Body}
 use Rattle.owl_axioms.specs.declared.body.Body.TheVariants as body
+use Rattle.owl_axioms.specs.declared.expr.ClassExpr.{ClassExpr}
 use Rattle.owl_axioms.specs.declared.name.Kind.{Kind}
 use Rattle.owl_axioms.specs.declared.name.Kind.TheVariants as kinds
 use Rattle.owl_axioms.specs.declared.name.Name.{Name}
@@ -25,8 +26,8 @@ use Rattle.obo_statements.proofs.GroupsBack.{group_equates}
 use Rattle.obo_mapping.specs.Axioms.{Home, at_home, axiom_spelled, body_spelled, declaring, frame_id, frame_kind, home_at, home_of, is_declared, name_as, statement_spelled}
 use Rattle.obo_mapping.specs.Documents.{clauses_for, group_spelled}
 use Rattle.obo_mapping.proofs.SinglesLaw.{IsStatement, home_is}
-use Rattle.spelling_laws.proofs.Homes.{GroupedAt, StatedAt, group_one, map_some, sorted_some, statement_moves}
-use Rattle.spelling_laws.proofs.Matching.{Alike, alike_some}
+use Rattle.spelling_laws.proofs.Homes.{GroupedAt, StatedAt, group_one, sorted_some, statement_moves}
+use Rattle.spelling_laws.proofs.Matching.{Alike, alike_some, map_back, map_some, or_one, some_from, some_left, some_right, then_some, where_from, where_some}
 use Rattle.spelling_laws.proofs.NotesAlike.{spelling_alike}
 use Rattle.spelling_laws.proofs.SameIds.{WriteAlike}
 use Rattle.spelling_laws.proofs.StatementsAlike.{group_alike, statement_alike}
@@ -42,21 +43,6 @@ module _ (w : Writing) (declared : List Name) where
     pub has : IsSome (frame_id w entity)
     pub states : StatedAt w a entity ⊎ GroupedAt w a entity
 
-  or_one : {X : Type 0} (o more : Option X) → IsSome (option_or o more) → IsSome o ⊎ IsSome more
-  or_one None more some = inr some
-  or_one (Some x) more some = inl refl
-
-  some_left : {X : Type 0} (o more : Option X) → IsSome o → IsSome (option_or o more)
-  some_left None more some = let h : false ≡ true = some in absurd (cc)
-  some_left (Some x) more some = refl
-
-  some_right : {X : Type 0} (o more : Option X) → IsSome more → IsSome (option_or o more)
-  some_right None more some = some
-  some_right (Some x) more some = refl
-
-  some_from : {X : Type 0} (o : Option X) (x : X) → o ≡ Some x → IsSome o
-  some_from o x is = subst (λ p. IsSome p) (sym is) refl
-
   -- what is stated at the home of an axiom is stated at an anchor
   stated_home : {X : Type 0} (a : Axiom) (state : Home → Option X) → ((home : Home) → IsSome (state home) → StatedAt w a home.entity ⊎ GroupedAt w a home.entity)
       → IsSome (option_and_then state (home_of w declared a.body)) → IsFormedAt a
@@ -71,10 +57,6 @@ module _ (w : Writing) (declared : List Name) where
         has = some_from (frame_id w home.0.entity) home.0.id is.id;
         states = each home.0 (some_from (state home.0) v.0 home.2);
       }
-
-  map_back : {X Y : Type 0} (f : X → Y) (o : Option X) → IsSome (option_map f o) → IsSome o
-  map_back f None some = some
-  map_back f (Some x) some = refl
 
   pub grouped_home : (a : Axiom) (g : Group) → IsSome (group_spelled w declared a g) → IsFormedAt a
   grouped_home a g some =
@@ -115,7 +97,7 @@ module _ (w : Writing) (declared : List Name) where
       let moved = statement_moves w is.entity here a is.among at.among is.has stated in
       let spelled : IsSome (statement_spelled w declared a) =
       subst (λ o. IsSome (option_and_then (λ (home : Home). option_map (at_home home) (statement_spelling w (frame_kind home.entity.kind) home.entity.iri a)) o)) (sym home.1)
-      (map_some w (at_home home.0) (statement_spelling w (frame_kind here.kind) here.iri a) moved) in
+      (map_some (at_home home.0) (statement_spelling w (frame_kind here.kind) here.iri a) moved) in
       some_left (body_spelled w declared a a.body) (first_some (group_spelled w declared a) (intersection ∷ union ∷ []))
       (subst (λ o. IsSome o) (sym (statement_body a a.body statement)) spelled))
       (λ (grouped : GroupedAt w a is.entity).
@@ -123,7 +105,7 @@ module _ (w : Writing) (declared : List Name) where
       let moved = subst (λ (n : Name). IsSome (group_spelling w n.iri grouped.0 a)) same grouped.1 in
       let spelled : IsSome (group_spelled w declared a grouped.0) =
       subst (λ o. IsSome (option_and_then (λ (home : Home). option_map (map (framed Term home.id)) (group_spelling w home.entity.iri grouped.0 a)) o)) (sym home.1)
-      (map_some w (map (framed Term home.0.id)) (group_spelling w here.iri grouped.0 a) moved) in
+      (map_some (map (framed Term home.0.id)) (group_spelling w here.iri grouped.0 a) moved) in
       some_right (body_spelled w declared a a.body) (first_some (group_spelled w declared a) (intersection ∷ union ∷ []))
       (first_some-some (group_spelled w declared a) (intersection ∷ union ∷ []) grouped.0 (all_groups grouped.0) spelled))
       is.states
@@ -134,8 +116,10 @@ module _ (w : Writing) (declared : List Name) where
       let v = some_value (group_spelled w declared a g) some in
       let home = option_and_then_some (λ (home : Home). option_map (map (framed Term home.id)) (group_spelling w home.entity.iri g a)) (home_of w declared a.body) v.0 v.1 in
       let cs = option_map_some (map (framed Term home.0.id)) (group_spelling w home.0.entity.iri g a) v.0 home.2 in
-      let equates = group_equates w home.0.entity.iri g a cs.0 cs.1 in
-      subst IsStatement {x = body.Equiv equates.0 equates.1} (sym equates.2) tt
+      is_pair (group_equates w home.0.entity.iri g a cs.0 cs.1)
+    where
+      is_pair : (c : ClassExpr) × (d : ClassExpr) × (a.body ≡ body.Equiv c d) → IsStatement a.body
+      is_pair one = subst IsStatement (sym one.2) tt
 
   -- what has clauses is a statement at an anchor, or has clauses by itself
   pub formed_ways : (a : Axiom) → IsSome (clauses_for w declared a) → (IsStatement a.body × IsFormedAt a) ⊎ IsSome (body_spelled w declared a a.body)
@@ -157,7 +141,11 @@ module _ (w : Writing) (declared : List Name) where
 
 -- ---- in another writing, where more is declared
 
-module _ (w v : Writing) (alike : WriteAlike w v) (declared more : List Name) (grows : (name : Name) → is_declared declared name ≡ true → is_declared more name ≡ true) where
+module _ (w v : Writing) (alike : WriteAlike w v) (declared more : List Name) where
+  -- all anchors that are declared in the one list are declared in the other
+  abbrev pub StayDeclared : Body → Type 0
+  StayDeclared said = (name : Name) → In name (anchors said) → is_declared declared name ≡ true → is_declared more name ≡ true
+
   frame_alike : (name : Name) → Alike (frame_id w name) (frame_id v name)
   frame_alike name = by_kind name.kind
     where
@@ -180,57 +168,47 @@ module _ (w v : Writing) (alike : WriteAlike w v) (declared more : List Name) (g
         is.states;
   }
 
-  where_some : {X : Type 0} (test : Bool) (o : Option X) → IsSome (where_true test o) → (test ≡ true) × IsSome o
-  where_some true o some = (refl, some)
-  where_some false o some = let h : false ≡ true = some in absurd (cc)
-
-  where_from : {X : Type 0} (test : Bool) (o : Option X) → test ≡ true → IsSome o → IsSome (where_true test o)
-  where_from test o is some = subst (λ t. IsSome (where_true t o)) (sym is) some
-
-  then_some : {X Y : Type 0} (f : X → Option Y) (o : Option X) → IsSome (option_and_then f o) → (x : X) × (o ≡ Some x) × IsSome (f x)
-  then_some f None some = let h : false ≡ true = some in absurd (cc)
-  then_some f (Some x) some = (x, refl, some)
-
   note_moves : (subject : Name) (note : Note) → is_declared more subject ≡ true
       → IsSome (option_and_then (λ (home : Home). option_map (at_home home) (spelling w (frame_kind subject.kind) note)) (home_at w declared subject))
       → IsSome (option_and_then (λ (home : Home). option_map (at_home home) (spelling v (frame_kind subject.kind) note)) (home_at v more subject))
   note_moves subject note known some =
       let home = then_some (λ (home : Home). option_map (at_home home) (spelling w (frame_kind subject.kind) note)) (home_at w declared subject) some in
-      let is = where_some (is_declared declared subject) (option_map (λ (id : List ℕ). let h : Home = record { entity = subject; id = id } in h) (frame_id w subject)) (some_from w declared (home_at w declared subject) home.0 home.1) in
-      let id = map_back w declared (λ (id : List ℕ). let h : Home = record { entity = subject; id = id } in h) (frame_id w subject) is.1 in
+      let is = where_some (is_declared declared subject) (option_map (λ (id : List ℕ). let h : Home = record { entity = subject; id = id } in h) (frame_id w subject)) (some_from (home_at w declared subject) home.0 home.1) in
+      let id = map_back (λ (id : List ℕ). let h : Home = record { entity = subject; id = id } in h) (frame_id w subject) is.1 in
       let there = some_value (frame_id v subject) (alike_some (frame_id w subject) (frame_id v subject) (frame_alike subject) id) in
-      let said = map_back w declared (at_home home.0) (spelling w (frame_kind subject.kind) note) home.2 in
+      let said = map_back (at_home home.0) (spelling w (frame_kind subject.kind) note) home.2 in
       let moved = alike_some (spelling w (frame_kind subject.kind) note) (spelling v (frame_kind subject.kind) note) (spelling_alike w v alike (frame_kind subject.kind) note) said in
       let new : Home = record { entity = subject; id = there.0 } in
       let at : home_at v more subject ≡ Some new = λ i. where_true (known i) (option_map (λ (id : List ℕ). let h : Home = record { entity = subject; id = id } in h) (there.1 i)) in
       subst (λ o. IsSome (option_and_then (λ (home : Home). option_map (at_home home) (spelling v (frame_kind subject.kind) note)) o)) (sym at)
-      (map_some w (at_home new) (spelling v (frame_kind subject.kind) note) moved)
+      (map_some (at_home new) (spelling v (frame_kind subject.kind) note) moved)
 
   note_known : (subject : Name) (note : Note) → IsSome (option_and_then (λ (home : Home). option_map (at_home home) (spelling w (frame_kind subject.kind) note)) (home_at w declared subject)) → is_declared declared subject ≡ true
   note_known subject note some =
       let home = then_some (λ (home : Home). option_map (at_home home) (spelling w (frame_kind subject.kind) note)) (home_at w declared subject) some in
-      (where_some (is_declared declared subject) (option_map (λ (id : List ℕ). let h : Home = record { entity = subject; id = id } in h) (frame_id w subject)) (some_from w declared (home_at w declared subject) home.0 home.1)).0
+      (where_some (is_declared declared subject) (option_map (λ (id : List ℕ). let h : Home = record { entity = subject; id = id } in h) (frame_id w subject)) (some_from (home_at w declared subject) home.0 home.1)).0
 
-  alone_moves : (a : Axiom) (said : Body) → a.body ≡ said → IsSome (body_spelled w declared a said) → IsSome (clauses_for v more a)
-  alone_moves a (body.Declaration name) is some =
+  alone_moves : (a : Axiom) (said : Body) → a.body ≡ said → StayDeclared said → IsSome (body_spelled w declared a said) → IsSome (clauses_for v more a)
+  unfolding anchors
+  alone_moves a (body.Declaration name) is stay some =
       let no_sides = where_some _ (option_map (declaring name) (frame_id w name)) some in
-      let id = alike_some (frame_id w name) (frame_id v name) (frame_alike name) (map_back w declared (declaring name) (frame_id w name) no_sides.1) in
-      alone_clauses v more a (subst (λ b. IsSome (body_spelled v more a b)) (sym is) (where_from _ (option_map (declaring name) (frame_id v name)) no_sides.0 (map_some w (declaring name) (frame_id v name) id)))
-  alone_moves a (body.Note subject property noted) is some =
-      alone_clauses v more a (subst (λ b. IsSome (body_spelled v more a b)) (sym is) (note_moves subject (note_of property noted a.sides) (grows subject (note_known subject (note_of property noted a.sides) some)) some))
-  alone_moves a (body.OntologyNote property noted) is some =
+      let id = alike_some (frame_id w name) (frame_id v name) (frame_alike name) (map_back (declaring name) (frame_id w name) no_sides.1) in
+      alone_clauses v more a (subst (λ b. IsSome (body_spelled v more a b)) (sym is) (where_from _ (option_map (declaring name) (frame_id v name)) no_sides.0 (map_some (declaring name) (frame_id v name) id)))
+  alone_moves a (body.Note subject property noted) is stay some =
+      alone_clauses v more a (subst (λ b. IsSome (body_spelled v more a b)) (sym is) (note_moves subject (note_of property noted a.sides) (stay subject (inl refl) (note_known subject (note_of property noted a.sides) some)) some))
+  alone_moves a (body.OntologyNote property noted) is stay some =
       let note = note_of property noted a.sides in
-      let said = map_back w declared (λ clause. framed Header [] clause ∷ []) (spelling w Header note) some in
+      let said = map_back (λ clause. framed Header [] clause ∷ []) (spelling w Header note) some in
       alone_clauses v more a (subst (λ b. IsSome (body_spelled v more a b)) (sym is)
-      (map_some w (λ clause. framed Header [] clause ∷ []) (spelling v Header note) (alike_some (spelling w Header note) (spelling v Header note) (spelling_alike w v alike Header note) said)))
-  alone_moves a said is some =
+      (map_some (λ clause. framed Header [] clause ∷ []) (spelling v Header note) (alike_some (spelling w Header note) (spelling v Header note) (spelling_alike w v alike Header note) said)))
+  alone_moves a said is stay some =
       let formed = statement_home w declared a some in
-      formed_clauses v more a (subst IsStatement (sym is) tt) (formed_moves a formed (grows formed.entity formed.known))
+      formed_clauses v more a (subst IsStatement (sym is) tt) (formed_moves a formed (stay formed.entity (subst (λ b. In formed.entity (anchors b)) is formed.among) formed.known))
 
   -- an axiom with a form keeps one
-  pub clauses_move : (a : Axiom) → IsSome (clauses_for w declared a) → IsSome (clauses_for v more a)
-  clauses_move a some =
+  pub clauses_move : (a : Axiom) → StayDeclared a.body → IsSome (clauses_for w declared a) → IsSome (clauses_for v more a)
+  clauses_move a stay some =
       ⊎_elim
-      (λ (stated : IsStatement a.body × IsFormedAt w declared a). formed_clauses v more a stated.0 (formed_moves a stated.1 (grows stated.1.entity stated.1.known)))
-      (λ alone. alone_moves a a.body refl alone)
+      (λ (stated : IsStatement a.body × IsFormedAt w declared a). formed_clauses v more a stated.0 (formed_moves a stated.1 (stay stated.1.entity stated.1.among stated.1.known)))
+      (λ alone. alone_moves a a.body refl stay alone)
       (formed_ways w declared a some)

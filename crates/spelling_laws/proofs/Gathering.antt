@@ -7,10 +7,11 @@ use Rattle.owl_axioms.specs.declared.body.Axiom.{Axiom}
 use Rattle.owl_axioms.specs.declared.name.Name.{Name}
 use Rattle.text_sets.specs.Sets.{In}
 use Rattle.text_sets.proofs.SetLemmas.{In-append, In-append_left, In-append_right, In-filter, In-filter_map, In-from_filter, In-from_filter_map}
+use Rattle.obo_statements.specs.Anchors.{anchors}
 use Rattle.obo_mapping.specs.Back.{writing_of}
 use Rattle.obo_mapping.specs.Documents.{clauses_for, declared_in}
 use Rattle.obo_mapping.proofs.SpelledLaw.{declared_among, declared_name, is_declared_from}
-use Rattle.spelling_laws.specs.Laws.{GatheringKeepsSpelling, IdsGoByNoName, MergingKeepsSpelling, SpellableIsOfSet, is_ontology_note, without_ontology_notes}
+use Rattle.spelling_laws.specs.Laws.{GatheringKeepsSpelling, IdsGoByNoName, MergingKeepsSpelling, PartKeepsSpelling, SpellableIsOfSet, is_ontology_note, without_ontology_notes}
 use Rattle.spelling_laws.proofs.Forms.{clauses_move}
 use Rattle.spelling_laws.proofs.SameIds.{WriteAlike, id_moves, write_alike}
 
@@ -20,12 +21,12 @@ ids_go_by_no_name iri one other some = id_moves one other iri some
 pub names_alike : (name other : Option (List ℕ)) → WriteAlike (writing_of name) (writing_of other)
 names_alike name other = write_alike (name_or_temp name) (name_or_temp other)
 
--- the axioms of a list that can be written have forms under another name, where at least as much is declared
-pub form_moves : (name other : Option (List ℕ)) (some more : List Axiom) → ((entity : Name) → In entity (filter_map declared_in some) → In entity (filter_map declared_in more))
-    → (one : Axiom) → IsSome (clauses_for (writing_of name) (filter_map declared_in some) one) → IsSome (clauses_for (writing_of other) (filter_map declared_in more) one)
-form_moves name other some more grows one formed =
-    clauses_move (writing_of name) (writing_of other) (names_alike name other) (filter_map declared_in some) (filter_map declared_in more)
-    (λ entity is. is_declared_from (filter_map declared_in more) entity (grows entity (declared_among (filter_map declared_in some) entity is))) one formed
+-- an axiom has a form under another name, where its anchors stay declared
+pub form_moves : (name other : Option (List ℕ)) (some more : List Axiom) (one : Axiom) → ((entity : Name) → In entity (anchors one.body) → In entity (filter_map declared_in some) → In entity (filter_map declared_in more))
+    → IsSome (clauses_for (writing_of name) (filter_map declared_in some) one) → IsSome (clauses_for (writing_of other) (filter_map declared_in more) one)
+form_moves name other some more one stay formed =
+    clauses_move (writing_of name) (writing_of other) (names_alike name other) (filter_map declared_in some) (filter_map declared_in more) one
+    (λ entity among is. is_declared_from (filter_map declared_in more) entity (stay entity among (declared_among (filter_map declared_in some) entity is))) formed
 
 pub declared_grows : (some more : List Axiom) → ((one : Axiom) → In one some → In one more) → (entity : Name) → In entity (filter_map declared_in some) → In entity (filter_map declared_in more)
 declared_grows some more each entity here =
@@ -37,9 +38,16 @@ gathering_keeps_spelling name other some others gathered first second is = recor
   normal = first.normal;
   proper = λ one here. ⊎_elim (first.proper one) (second.proper one) (is.each one here);
   formed = λ one here. ⊎_elim
-      (λ of. form_moves name name some gathered (λ entity known. is.declared entity (declared_grows some (some ++ others) (λ a. In-append_left a some others) entity known)) one (first.formed one of))
-      (λ of. form_moves other name others gathered (λ entity known. is.declared entity (declared_grows others (some ++ others) (λ a. In-append_right a some others) entity known)) one (second.formed one of))
+      (λ of. form_moves name name some gathered one (λ entity among known. is.declared entity (declared_grows some (some ++ others) (λ a. In-append_left a some others) entity known)) (first.formed one of))
+      (λ of. form_moves other name others gathered one (λ entity among known. is.declared entity (declared_grows others (some ++ others) (λ a. In-append_right a some others) entity known)) (second.formed one of))
       (is.each one here);
+}
+
+pub part_keeps_spelling : PartKeepsSpelling
+part_keeps_spelling name axioms part spellable is = record {
+  normal = spellable.normal;
+  proper = λ one here. spellable.proper one (is.each one here);
+  formed = λ one here. form_moves name name axioms part one (λ entity among known. is.declared one entity here among known) (spellable.formed one (is.each one here));
 }
 
 pub spellable_is_of_set : SpellableIsOfSet

@@ -38,6 +38,7 @@ use Rattle.obo_statements.specs.Statements.{StatementRow, statement_by, statemen
 use Rattle.obo_statements.specs.Values.{Character, Statement, asymmetric, disjoint_class, disjoint_role, functional, has_character, inverse_functional, inverse_role, other_class, other_of, reflexive, same_class, same_role, symmetric, transitive, value_plainly, value_stating}
 use Rattle.obo_statements.proofs.GroupLaws.{whole_of}
 use Rattle.obo_mapping.specs.Axioms.{frame_id, frame_kind}
+use Rattle.spelling_laws.proofs.Matching.{map_some}
 
 -- ---- the least of some is there
 
@@ -287,10 +288,6 @@ module _ (w : Writing) where
 
   abbrev pub GroupedAt : Axiom → Name → Type 0
   GroupedAt a x = (group : Group) × IsSome (group_spelling w x.iri group a)
-
-  pub map_some : {X Y : Type 0} (f : X → Y) (o : Option X) → IsSome o → IsSome (option_map f o)
-  map_some f None some = let h : false ≡ true = some in absurd (cc)
-  map_some f (Some x) some = refl
 
   row_moves : (x y : Name) (a : Axiom) (row : StatementRow) → In x (anchors a.body) → In y (anchors a.body) → IsSome (frame_id w x) → IsSome (statement_by w x.iri a row) → IsSome (statement_by w y.iri a row)
   unfolding value_stating

@@ -1,5 +1,5 @@
 -- Two options of which there is one exactly where there is the other.
-use Rattle.std.proofs.Common.{◌≡◌, Bool, true, false, List, [], ◌∷◌, Option, None, Some, refl, ap}
+use Rattle.std.proofs.Common.{◌≡◌, ◌⊎◌, Bool, true, false, List, [], ◌∷◌, Option, None, Some, inl, inr, refl, sym, ap, subst}
 use Rattle.std.specs.Option.{IsSome, option_and_then, option_map, option_or}
 use Rattle.text_sets.specs.Parts.{Taken, each_some, first_some, take_one, take_one_more}
 use Rattle.obo_notes.specs.Context.{where_true}
@@ -103,3 +103,39 @@ one_rest x xs (Some y) (Some z) more others is same = refl
 pub rest_alike : {X Y Z : Type 0} (f : X → Option Y) (g : X → Option Z) → ((x : X) → Alike (f x) (g x)) → (xs : List X) → (take_one f xs).rest ≡ (take_one g xs).rest
 rest_alike f g each [] = refl
 rest_alike f g each (x ∷ xs) = one_rest x xs (f x) (g x) (take_one f xs) (take_one g xs) (each x) (rest_alike f g each xs)
+
+-- ---- an option that is there
+
+pub map_some : {X Y : Type 0} (f : X → Y) (o : Option X) → IsSome o → IsSome (option_map f o)
+map_some f None some = let h : false ≡ true = some in absurd (cc)
+map_some f (Some x) some = refl
+
+pub or_one : {X : Type 0} (o more : Option X) → IsSome (option_or o more) → IsSome o ⊎ IsSome more
+or_one None more some = inr some
+or_one (Some x) more some = inl refl
+
+pub some_left : {X : Type 0} (o more : Option X) → IsSome o → IsSome (option_or o more)
+some_left None more some = let h : false ≡ true = some in absurd (cc)
+some_left (Some x) more some = refl
+
+pub some_right : {X : Type 0} (o more : Option X) → IsSome more → IsSome (option_or o more)
+some_right None more some = some
+some_right (Some x) more some = refl
+
+pub some_from : {X : Type 0} (o : Option X) (x : X) → o ≡ Some x → IsSome o
+some_from o x is = subst (λ p. IsSome p) (sym is) refl
+
+pub map_back : {X Y : Type 0} (f : X → Y) (o : Option X) → IsSome (option_map f o) → IsSome o
+map_back f None some = some
+map_back f (Some x) some = refl
+
+pub where_some : {X : Type 0} (test : Bool) (o : Option X) → IsSome (where_true test o) → (test ≡ true) × IsSome o
+where_some true o some = (refl, some)
+where_some false o some = let h : false ≡ true = some in absurd (cc)
+
+pub where_from : {X : Type 0} (test : Bool) (o : Option X) → test ≡ true → IsSome o → IsSome (where_true test o)
+where_from test o is some = subst (λ t. IsSome (where_true t o)) (sym is) some
+
+pub then_some : {X Y : Type 0} (f : X → Option Y) (o : Option X) → IsSome (option_and_then f o) → (x : X) × (o ≡ Some x) × IsSome (f x)
+then_some f None some = let h : false ≡ true = some in absurd (cc)
+then_some f (Some x) some = (x, refl, some)

@@ -5,5 +5,6 @@
 mod laws;
 
 pub use laws::{
-    gathering_keeps_spelling, ids_go_by_no_name, merging_keeps_spelling, spellable_is_of_set,
+    gathering_keeps_spelling, ids_go_by_no_name, inclusions_keep_spelling, merging_keeps_spelling,
+    part_keeps_spelling, spellable_is_of_set,
 };
