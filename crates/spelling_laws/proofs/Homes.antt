@@ -190,7 +190,7 @@ module _ (w : Writing) where
   HasTwo (body.Inverse p q) = Unit {0}
   HasTwo _ = ⊥
 
-  character_never : {P : Type 0} (x : Name) (character : Character) (said : Body) → HasTwo said → Valued x (has_character character) said → P
+  pub character_never : {P : Type 0} (x : Name) (character : Character) (said : Body) → HasTwo said → Valued x (has_character character) said → P
   unfolding value_plainly
   character_never x transitive (body.Transitive p) two some = absurd two
   character_never x reflexive (body.Reflexive p) two some = absurd two

@@ -1,0 +1,4 @@
+pub mod Flagged
+pub mod Reducing
+pub mod Relaxing
+pub mod Shipping
