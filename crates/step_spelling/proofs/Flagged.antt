@@ -1,5 +1,5 @@
 -- What stands beside flags that are true.
-use Rattle.std.proofs.Common.{◌≡◌, ℕ, zero, suc, Bool, true, false, List, [], ◌∷◌, length, slice_get, map, Some, inl, inr, ⊎_elim, refl, sym, ap, subst, ◌∙◌, arith}
+use Rattle.std.proofs.Common.{◌≡◌, ℕ, suc, Bool, true, false, List, [], ◌∷◌, length, slice_get, Some, inl, inr, refl, ap, arith}
 use Rattle.text_sets.specs.Sets.{In}
 use Rattle.owl_ontology.specs.Ontology.{Entry, axioms_of, flagged}
 

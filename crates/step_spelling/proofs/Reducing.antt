@@ -1,17 +1,15 @@
 -- Reducing drops inclusions alone: all that is declared stays declared.
-use Rattle.std.proofs.Common.{◌≡◌, ℕ, Bool, List, Some, sym, ap, subst, ◌∙◌}
+use Rattle.std.proofs.Common.{◌≡◌, Bool, List, sym, ap, subst, ◌∙◌}
 use Rattle.std.specs.List.{filter_map}
 use Rattle.text_sets.specs.Sets.{In}
 use Rattle.text_sets.proofs.SetLemmas.{In-filter_map, In-from_filter_map, In-from_map, In-map}
 use Rattle.owl_axioms.specs.declared.body.Axiom.{Axiom}
 use Rattle.owl_axioms.specs.declared.body.Body.TheVariants as body
 use Rattle.owl_axioms.specs.declared.name.Name.{Name}
-use Rattle.owl_ontology.specs.Ontology.{Entry, OntologyState, axioms_of, flagged}
-use Rattle.obo_mapping.specs.Back.{IsSpellable}
+use Rattle.owl_ontology.specs.Ontology.{Entry, axioms_of, flagged}
 use Rattle.obo_mapping.specs.Documents.{declared_in}
 use Rattle.obo_mapping.proofs.SinglesLaw.{IsStatement}
 use Rattle.obo_mapping.proofs.SpelledLaw.{declared_name}
-use Rattle.reduce_edges.specs.Reduce.{Reduces}
 use Rattle.reduce_edges.specs.Redundant.{Goes}
 use Rattle.spelling_laws.proofs.Gathering.{part_keeps_spelling}
 use Rattle.step_spelling.specs.Laws.{CanBeWritten, ReducingKeepsSpelling}

@@ -1,13 +1,12 @@
 -- Relaxing adds inclusions of declared classes: a definition that can be written is stated of its class, and each of its
 -- operands can be written.
-use Rattle.std.proofs.Common.{◌≡◌, ◌⊎◌, ℕ, Bool, true, false, ◌&&◌, List, [], ◌∷◌, ◌++◌, Option, None, Some, inl, inr, ⊎_elim, refl, sym, ap, subst, ◌∙◌, Contains}
+use Rattle.std.proofs.Common.{◌≡◌, ◌⊎◌, ℕ, true, false, ◌&&◌, List, [], ◌∷◌, ◌++◌, Option, None, Some, inl, inr, ⊎_elim, refl, sym, ap, subst, ◌∙◌, Contains}
 use Rattle.std.specs.List.{filter_map}
 use Rattle.std.specs.Option.{IsSome, option_and_then, option_map, option_map_or}
 use Rattle.std.specs.Str.{bytes_eq}
 use Rattle.std.proofs.lemmas.Bool.{and_parts, cases_Bool, cond-false, cond-true}
 use Rattle.std.proofs.lemmas.List.{map-append}
 use Rattle.std.proofs.lemmas.Option.{none-some, same_Some}
-use Rattle.obo_tags.specs.declared.kind.FrameKind.{FrameKind}
 use Rattle.obo_clause.specs.declared.clause.Clause.{Clause}
 use Rattle.obo_clause.specs.declared.clause.Value.{Value}
 use Rattle.clause_printer.specs.Printing.{value_text}
@@ -29,7 +28,7 @@ use Rattle.owl_axioms.proofs.Layers.{proper_of_and}
 use Rattle.owl_axioms.proofs.Making.{are_proper_operands-is}
 use Rattle.owl_axioms.proofs.Members.{In-contains, passes}
 use Rattle.owl_axioms.proofs.ProperAxioms.{are_proper_sides-none}
-use Rattle.owl_ontology.specs.Ontology.{Entry, OntologyState, axioms_of}
+use Rattle.owl_ontology.specs.Ontology.{Entry, axioms_of}
 use Rattle.obo_notes.specs.Context.{Writing, where_true}
 use Rattle.obo_notes.specs.Notes.{qualifiers_of}
 use Rattle.obo_notes.proofs.Guards.{where_true_some}
@@ -37,21 +36,21 @@ use Rattle.obo_statements.specs.Anchors.{anchors, class_anchor, class_entity}
 use Rattle.obo_statements.specs.Classes.{as_id, class_iri, is_class}
 use Rattle.obo_statements.specs.Extras.{Worded, qualifiers_with, worded_plainly}
 use Rattle.obo_statements.specs.Groups.{Group, clauses_with, group_clauses, group_expr, group_in_body, group_operands, group_spelling, intersection, operand_value, other_expr, union}
-use Rattle.obo_statements.specs.Statements.{StatementRow, statement_by, statement_spelling, statements_of}
-use Rattle.obo_statements.specs.Values.{Statement, has_character, other_class, other_of, same_class, value_plainly, value_stating}
+use Rattle.obo_statements.specs.Statements.{statement_by, statement_spelling, statements_of}
+use Rattle.obo_statements.specs.Values.{Statement, has_character, other_of, same_class, value_plainly, value_stating}
 use Rattle.obo_statements.proofs.GroupsBack.{pair_in_order}
 use Rattle.obo_mapping.specs.Axioms.{frame_kind}
 use Rattle.obo_mapping.specs.Back.{IsSpellable, writing_of}
-use Rattle.obo_mapping.specs.Documents.{clauses_for, declared_in}
+use Rattle.obo_mapping.specs.Documents.{declared_in}
 use Rattle.obo_mapping.proofs.SinglesLaw.{IsStatement}
 use Rattle.obo_mapping.proofs.SpelledLaw.{declared_among}
-use Rattle.relax_axioms.specs.Relax.{Relaxes, step_entries}
+use Rattle.relax_axioms.specs.Relax.{step_entries}
 use Rattle.relax_axioms.specs.Relaxed.{Defines, IsImplied, IsMissing, below, plain}
 use Rattle.spelling_laws.specs.Laws.{IsInclusion}
 use Rattle.spelling_laws.proofs.Forms.{IsFormedAt, formed_ways, statement_home}
 use Rattle.spelling_laws.proofs.Homes.{GroupedAt, StatedAt, character_never}
 use Rattle.spelling_laws.proofs.Inclusions.{inclusions_keep_spelling}
-use Rattle.step_spelling.specs.Laws.{CanBeWritten, RelaxingKeepsSpelling}
+use Rattle.step_spelling.specs.Laws.{RelaxingKeepsSpelling}
 
 -- ---- an intersection is no class
 

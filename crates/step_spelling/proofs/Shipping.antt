@@ -1,7 +1,6 @@
 -- What is shipped with a part is rooted: each name in an axiom of the part is declared there where it is declared at all.
 use Rattle.std.proofs.Common.{◌≡◌, ◌⊎◌, ℕ, Bool, true, false, not, ◌||◌, List, [], ◌∷◌, ◌++◌, length, if◌then◌else◌, Option, inl, inr, ⊎_elim, refl, sym, ap, subst, ◌∙◌, arith}
-use Rattle.std.specs.List.{filter_map}
-use Rattle.std.proofs.lemmas.Bool.{cases_Bool, or_left}
+use Rattle.std.proofs.lemmas.Bool.{or_left}
 use Rattle.text_sets.specs.Sets.{In}
 use Rattle.text_sets.proofs.SetLemmas.{In-append, In-append_left, In-append_right, In-filter_map, In-from_filter_map, contains-from_In}
 use Rattle.owl_axioms.specs.Names.{Scope, body_names, is_signed, listed, name_of, names_in, names_of, names_step}
@@ -17,7 +16,7 @@ use Rattle.owl_axioms.specs.declared.expr.ClassExpr.TheViews.{roll-ClassExpr}
 use Rattle.owl_axioms.specs.declared.name.Kind.TheVariants as kinds
 use Rattle.owl_axioms.specs.declared.name.Name.{Name}
 use Rattle.owl_axioms.proofs.Listed.{listed_in, name_of_axiom}
-use Rattle.owl_ontology.specs.Ontology.{OntologyState, axioms_of, flagged}
+use Rattle.owl_ontology.specs.Ontology.{axioms_of, flagged}
 use Rattle.obo_statements.specs.Anchors.{anchors, class_anchor, class_entity, individual_entity, role_entity}
 use Rattle.obo_mapping.specs.Back.{IsSpellable}
 use Rattle.obo_mapping.specs.Documents.{declared_in}
@@ -26,7 +25,7 @@ use Rattle.obo_mapping.proofs.SpelledLaw.{declared_name}
 use Rattle.module_extract.specs.Module.{seed_and}
 use Rattle.module_extract.specs.Shipped.{is_said, shipped_flags, ships, ships_each}
 use Rattle.spelling_laws.proofs.Gathering.{part_keeps_spelling}
-use Rattle.step_spelling.specs.Laws.{CanBeWritten, Ships, ShippingKeepsSpelling}
+use Rattle.step_spelling.specs.Laws.{CanBeWritten, ShippingKeepsSpelling}
 use Rattle.step_spelling.proofs.Flagged.{axioms_of-flagged, axioms_of-length, flagged_each}
 
 -- ---- anchors are names of the axiom, or owl:Thing and owl:Nothing
