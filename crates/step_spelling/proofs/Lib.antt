@@ -1,0 +1,5 @@
+pub mod Flagged
+pub mod Reading
+pub mod Reducing
+pub mod Relaxing
+pub mod Shipping
