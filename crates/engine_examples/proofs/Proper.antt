@@ -43,7 +43,7 @@ declared_proper name clean = clean
 
 pub noted_proper : (name : Name) (property text : List ℕ) → IsTrue (is_clean_iri name.iri) → IsTrue (is_clean_iri property) → IsTrue (is_proper_unordered (body.Note name property (note.Text text)))
 unfolding is_proper_body is_proper_unordered is_proper_name is_proper_value
-noted_proper name property text clean one = and_from (is_clean_iri name.iri) (is_clean_iri property && true) clean (and_from (is_clean_iri property) true one (let h : true ≡ true = λ i. true in h))
+noted_proper name property text clean one = and_from (is_clean_iri name.iri && is_clean_iri property) true (and_from (is_clean_iri name.iri) (is_clean_iri property) clean one) (let h : true ≡ true = λ i. true in h)
 
 pub of_ontology_proper : (property text : List ℕ) → IsTrue (is_clean_iri property) → IsTrue (is_proper_unordered (body.OntologyNote property (note.Text text)))
 unfolding is_proper_body is_proper_unordered is_proper_value
