@@ -1,4 +1,5 @@
 //! One module for each crate whose answers are compared.
+mod extracts;
 mod pools;
 mod signatures;
 mod steps;

@@ -14,7 +14,7 @@ use std::alloc::Global;
 use std::test::Fail;
 
 /// A letter from a to p, by its place among them, as an IRI.
-fn letter(alloc: Global, place: u8) -> Result<Iri, NoMemory>
+pub fn letter(alloc: Global, place: u8) -> Result<Iri, NoMemory>
     ensures { IfOk result (λ iri. IsTrue (is_clean_iri iri)) }
 {
     Ok(Iri::from_vec(Vec::from_slice(alloc, &[97 + place % 16])?))
@@ -88,7 +88,7 @@ fn note(alloc: Global) -> Result<Side, NoMemory>
 }
 
 /// No annotation, or one.
-fn sides(alloc: Global, has_note: bool) -> Result<Vec<Side>, NoMemory>
+pub fn sides(alloc: Global, has_note: bool) -> Result<Vec<Side>, NoMemory>
     ensures { IfOk result (λ sides. IsTrue (list_all is_proper_side sides.items)) }
 {
     let mut sides = Vec::new(alloc);
@@ -124,7 +124,7 @@ fn body(alloc: Global, sub: u8, sign: u8, signs: &[u8]) -> Result<Body, NoMemory
 }
 
 /// An axiom, as a row of a table has it.
-fn axiom(alloc: Global, row: &(u8, u8, &[u8], bool)) -> Result<Axiom, NoMemory>
+pub fn axiom(alloc: Global, row: &(u8, u8, &[u8], bool)) -> Result<Axiom, NoMemory>
     ensures { IfOk result IsProper }
 {
     let sides = sides(alloc, row.3)?;

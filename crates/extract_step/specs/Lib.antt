@@ -1,0 +1,3 @@
+pub mod Extract
+pub mod Known
+pub mod Laws
