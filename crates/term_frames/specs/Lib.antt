@@ -1,9 +1,0 @@
-pub mod Built
-pub mod Clauses
-pub mod Forms
-pub mod Laws
-pub mod Lines
-pub mod Mapping
-pub mod NameTable
-pub mod Progress
-pub mod Text
