@@ -1,7 +1,7 @@
 -- An axiom that has clauses keeps them under another name of the ontology, where its anchors stay declared.
-use Rattle.std.proofs.Common.{◌≡◌, ◌⊎◌, ℕ, Bool, true, false, List, [], ◌∷◌, map, Option, None, Some, inl, inr, ⊎_elim, refl, sym, subst}
+use Rattle.std.proofs.Common.{◌≡◌, ◌⊎◌, ℕ, true, List, [], ◌∷◌, map, Option, Some, inl, inr, ⊎_elim, refl, sym, subst}
 use Rattle.std.specs.List.{filter_map}
-use Rattle.std.specs.Option.{IsSome, option_and_then, option_map, option_or}
+use Rattle.std.specs.Option.{IsSome, option_and_then, option_map}
 use Rattle.obo_tags.specs.declared.kind.FrameKind.TheVariants.{Header, Term}
 use Rattle.owl_axioms.specs.declared.body.Axiom.{Axiom}
 use Rattle.owl_axioms.specs.declared.body.Body.{Body}

@@ -1,5 +1,5 @@
 -- Inclusions of declared classes can be added to what can be written.
-use Rattle.std.proofs.Common.{◌≡◌, ◌⊎◌, ℕ, Bool, true, false, List, [], ◌∷◌, Option, None, Some, inl, inr, ⊎_elim, refl, sym, ap, subst, ◌∙◌}
+use Rattle.std.proofs.Common.{◌≡◌, ℕ, Bool, true, false, List, [], Option, None, Some, inl, inr, ⊎_elim, refl, sym, ap, subst, ◌∙◌}
 use Rattle.std.specs.List.{filter_map}
 use Rattle.std.specs.Option.{IsSome, option_and_then, option_map, option_map_or}
 use Rattle.std.specs.Str.{bytes_eq}
@@ -10,7 +10,6 @@ use Rattle.obo_clause.specs.declared.clause.Clause.{Clause}
 use Rattle.obo_clause.specs.declared.clause.Value.{Value}
 use Rattle.owl_axioms.specs.Proper.{are_proper_sides, is_class_iri, is_proper, is_proper_body, is_proper_expr, proper_step}
 use Rattle.owl_axioms.specs.declared.body.Axiom.{Axiom}
-use Rattle.owl_axioms.specs.declared.body.Body.{Body}
 use Rattle.owl_axioms.specs.declared.body.Body.TheVariants as body
 use Rattle.owl_axioms.specs.declared.expr.ClassExpr.{ClassExpr}
 use Rattle.owl_axioms.specs.declared.expr.ClassExpr.TheFolds.{para-roll-ClassExpr}
@@ -28,8 +27,8 @@ use Rattle.obo_statements.specs.Extras.{Worded, qualifiers_with, worded_plainly}
 use Rattle.obo_statements.specs.Groups.{intersection, operand_value}
 use Rattle.obo_statements.specs.Restrictions.{restriction_words}
 use Rattle.obo_statements.specs.Statements.{StatementRow, says, statement_by, statement_spelling, statements_of}
-use Rattle.obo_statements.specs.Values.{Statement, below_class, restricted, value_plainly, value_stating}
-use Rattle.obo_mapping.specs.Axioms.{body_spelled, declaring, frame_id, is_declared}
+use Rattle.obo_statements.specs.Values.{below_class, restricted, value_plainly, value_stating}
+use Rattle.obo_mapping.specs.Axioms.{body_spelled, declaring, frame_id}
 use Rattle.obo_mapping.specs.Back.{IsSpellable, writing_of}
 use Rattle.obo_mapping.specs.Documents.{clauses_for, declared_in}
 use Rattle.obo_mapping.proofs.SinglesLaw.{IsStatement}
@@ -37,8 +36,7 @@ use Rattle.obo_mapping.proofs.SpelledLaw.{declared_name, is_declared_from}
 use Rattle.spelling_laws.specs.Laws.{InclusionsKeepSpelling, IsInclusion}
 use Rattle.spelling_laws.proofs.Forms.{formed_clauses, formed_ways}
 use Rattle.spelling_laws.proofs.Gathering.{declared_grows, form_moves}
-use Rattle.spelling_laws.proofs.Homes.{StatedAt}
-use Rattle.spelling_laws.proofs.Matching.{map_back, map_some, or_one, where_from, where_some}
+use Rattle.spelling_laws.proofs.Matching.{map_back, or_one, where_from, where_some}
 
 -- ---- classes
 
