@@ -155,3 +155,6 @@ joins_later place document old said later apart of sources source long is m =
     (first_name-more sources source old.name m.name (λ empty. later (sym long ∙ ap length empty)))
     (subst (λ n. AreOf n source (moved said.entries)) (sym long) (moved_of place source said.entries later s))
     (joined old.entries (moved said.entries) apart) m
+
+pub joins_as_first : (place : ℕ) (document : List Placed) (old said : OntologyState) → place ≡ zero → IsOf place document said → Joins place document old said
+joins_as_first place document old said is of = subst (λ n. IsOf n document said → Joins n document old said) (sym is) (joins_first document old said) of
