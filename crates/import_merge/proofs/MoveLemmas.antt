@@ -17,7 +17,8 @@ use Rattle.obo_mapping.specs.Documents.{name_of, owl}
 use Rattle.obo_mapping.specs.Lines.{line_of}
 use Rattle.obo_to_owl.specs.Translated.{IsPlaced}
 use Rattle.import_closure.specs.declared.files.SourceFile.{SourceFile}
-use Rattle.import_merge.specs.Merged.{IsMerged, given_by, is_ontology_note, said_in}
+use Rattle.spelling_laws.specs.Laws.{is_ontology_note}
+use Rattle.import_merge.specs.Merged.{IsMerged, given_by, said_in}
 use Rattle.import_merge.specs.Notes.{file_note}
 use Rattle.import_merge.specs.declared.merged.FileNote.{FileNote}
 use Rattle.import_merge.specs.inner.Joining.{Joins, moved, with_moved}
@@ -73,10 +74,10 @@ given_later : (place : ℕ) (source : SourceFile) → (place ≡ zero → ⊥) �
 given_later zero source later = absurd (later refl)
 given_later (suc place) source later = refl
 
-in_moved : (e : Entry) (entries : List Entry) → In e (moved entries) → In e entries × (not (is_ontology_note e.axiom) ≡ true)
+pub in_moved : (e : Entry) (entries : List Entry) → In e (moved entries) → In e entries × (not (is_ontology_note e.axiom) ≡ true)
 in_moved e entries here = In-from_filter (λ (x : Entry). not (is_ontology_note x.axiom)) e entries (In-reversed e (filter (λ (x : Entry). not (is_ontology_note x.axiom)) entries) here)
 
-moved_in : (e : Entry) (entries : List Entry) → In e entries → not (is_ontology_note e.axiom) ≡ true → In e (moved entries)
+pub moved_in : (e : Entry) (entries : List Entry) → In e entries → not (is_ontology_note e.axiom) ≡ true → In e (moved entries)
 moved_in e entries here other = In-reverse e (filter (λ (x : Entry). not (is_ontology_note x.axiom)) entries) (In-filter (λ (x : Entry). not (is_ontology_note x.axiom)) e entries here other)
 
 -- the entries of a file's own ontology

@@ -13,10 +13,11 @@ loop-place-preserved c =
     record {
       ontology = merged_more sources c.loop-place.place source c.loop-place.ontology c.join_file.new.ontology within c.index-sources-place.is c.in_ok-note.ensures.joins c.loop-place.invariant.ontology;
       files = noted_more sources c.loop-place.place source c.loop-place.files.items c.push.new.self.items c.in_ok-note.note within c.index-sources-place.is c.in_ok-note.ensures.note c.loop-place.invariant.files c.in_ok-push.ensures.items;
+      spelling = c.in_ok-note.ensures.spelling c.loop-place.invariant.spelling;
     }
 
-pub returns : goal.returns
-returns c =
+pub returns-clause-loaded : goal.returns-clause-loaded
+returns-clause-loaded c =
     let sources = c.args.sources.now in
     let past : length sources ≤ c.loop-place.place = let f = c.loop-place-test.false in omega arith in
     let whole : take c.loop-place.place sources ≡ sources = take_all c.loop-place.place sources past in
