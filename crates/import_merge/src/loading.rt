@@ -34,8 +34,17 @@ pub fn load<F: Folder>(
     ensures counts { NoCountFell (F.state folder.old) (F.state folder.new) }
 {
     let sources = read_files(alloc, folder, inputs, catalog, limits)?;
+    let _few = file_limit(limits);
     let merged = merged(alloc, sources.as_slice())?;
     Ok(merged)
+}
+
+/// How many files there may be. That is a number of 32 bits.
+fn file_limit(limits: &Limits) -> u32
+    ensures is { result ≡ limits.now.files }
+    ensures small { result < 2 ^ 32 }
+{
+    limits.files
 }
 
 /// The ontology of files, with a note of each.
