@@ -10,7 +10,8 @@ use Rattle.owl_ontology.specs.Origins.{comes_before}
 use Rattle.owl_ontology.specs.declared.origin.Origin.{Origin}
 use Rattle.import_closure.specs.declared.files.SourceFile.{SourceFile}
 use Rattle.import_merge.specs.Laws.{FilesDecide, IsNoted, OrderIsFree}
-use Rattle.import_merge.specs.Merged.{IsGiven, IsMerged, given_by, is_ontology_note, said_in}
+use Rattle.spelling_laws.specs.Laws.{is_ontology_note}
+use Rattle.import_merge.specs.Merged.{IsGiven, IsMerged, given_by, said_in}
 use Rattle.import_merge.proofs.PlaceLemmas.{In-place, place_of, some_is}
 
 -- origins of which none comes before the other are one

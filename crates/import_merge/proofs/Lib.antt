@@ -3,3 +3,4 @@ pub mod FrameLemmas
 pub mod MergeLemmas
 pub mod MoveLemmas
 pub mod PlaceLemmas
+pub mod SpellingLemmas

@@ -70,7 +70,7 @@ one_origin sources source a origin e last is same =
     let line : e.origin.line ≡ origin.line = some_is e.origin.line origin.line (sym is.line ∙ ap (line_of source.document) same ∙ last.line) in
     λ i. record { file = file i; line = line i }
 
-first_name-more : (sources : List SourceFile) (source : SourceFile) (name : _) → name ≡ first_name sources → (sources ≡ [] → ⊥) → name ≡ first_name (sources ++ source ∷ [])
+pub first_name-more : (sources : List SourceFile) (source : SourceFile) (name : _) → name ≡ first_name sources → (sources ≡ [] → ⊥) → name ≡ first_name (sources ++ source ∷ [])
 first_name-more [] source name is some = absurd (some refl)
 first_name-more (first ∷ sources) source name is some = is
 
@@ -107,7 +107,7 @@ merged_next sources source old new added name o j m = record {
 
 -- ---- the first file
 
-no_entry : (o : OntologyState) → IsMerged [] o → (e : Entry) → In e o.entries → ⊥
+pub no_entry : (o : OntologyState) → IsMerged [] o → (e : Entry) → In e o.entries → ⊥
 no_entry o m e here = none_there (m.given e here).source (m.given e here).there
   where
     none_there : (source : SourceFile) → None ≡ Some source → ⊥

@@ -1,6 +1,7 @@
 -- Axioms that are moved into an ontology, and the file that joins by them.
-use Rattle.std.proofs.Common.{◌≡◌, ◌⊎◌, ◌∙◌, ℕ, zero, suc, true, false, not, List, [], ◌∷◌, ◌++◌, Contains, inl, inr, ⊎_elim, filter, length, map, refl, sym, ap, subst}
-use Rattle.std.proofs.lemmas.List.{reverse-append, reverse-reverse}
+use Rattle.std.proofs.Common.{◌≡◌, ◌⊎◌, ◌∙◌, ℕ, zero, suc, true, false, not, List, [], ◌∷◌, ◌++◌, Contains, inl, inr, ⊎_elim, filter, length, map, refl, sym, ap, subst, ◌<◌, ◌+◌, get_or, take, arith}
+use Rattle.std.proofs.Math.Seq.{take-suc}
+use Rattle.std.proofs.lemmas.List.{length-take-le, map-append, reverse-append, reverse-reverse}
 use Rattle.std.proofs.lemmas.List.Elements.{filter-append}
 use Rattle.std.specs.Prelude.{reverse}
 use Rattle.text_sets.specs.Sets.{In, SameMembers}
@@ -16,7 +17,10 @@ use Rattle.obo_mapping.specs.Documents.{name_of, owl}
 use Rattle.obo_mapping.specs.Lines.{line_of}
 use Rattle.obo_to_owl.specs.Translated.{IsPlaced}
 use Rattle.import_closure.specs.declared.files.SourceFile.{SourceFile}
-use Rattle.import_merge.specs.Merged.{IsMerged, given_by, is_ontology_note, said_in}
+use Rattle.spelling_laws.specs.Laws.{is_ontology_note}
+use Rattle.import_merge.specs.Merged.{IsMerged, given_by, said_in}
+use Rattle.import_merge.specs.Notes.{file_note}
+use Rattle.import_merge.specs.declared.merged.FileNote.{FileNote}
 use Rattle.import_merge.specs.inner.Joining.{Joins, moved, with_moved}
 use Rattle.import_merge.proofs.MergeLemmas.{AreJoined, AreOf, first_name-more, merged_next, no_entry}
 use Rattle.import_merge.proofs.PlaceLemmas.{some_is}
@@ -70,10 +74,10 @@ given_later : (place : ℕ) (source : SourceFile) → (place ≡ zero → ⊥) �
 given_later zero source later = absurd (later refl)
 given_later (suc place) source later = refl
 
-in_moved : (e : Entry) (entries : List Entry) → In e (moved entries) → In e entries × (not (is_ontology_note e.axiom) ≡ true)
+pub in_moved : (e : Entry) (entries : List Entry) → In e (moved entries) → In e entries × (not (is_ontology_note e.axiom) ≡ true)
 in_moved e entries here = In-from_filter (λ (x : Entry). not (is_ontology_note x.axiom)) e entries (In-reversed e (filter (λ (x : Entry). not (is_ontology_note x.axiom)) entries) here)
 
-moved_in : (e : Entry) (entries : List Entry) → In e entries → not (is_ontology_note e.axiom) ≡ true → In e (moved entries)
+pub moved_in : (e : Entry) (entries : List Entry) → In e entries → not (is_ontology_note e.axiom) ≡ true → In e (moved entries)
 moved_in e entries here other = In-reverse e (filter (λ (x : Entry). not (is_ontology_note x.axiom)) entries) (In-filter (λ (x : Entry). not (is_ontology_note x.axiom)) e entries here other)
 
 -- the entries of a file's own ontology
@@ -155,3 +159,28 @@ joins_later place document old said later apart of sources source long is m =
     (first_name-more sources source old.name m.name (λ empty. later (sym long ∙ ap length empty)))
     (subst (λ n. AreOf n source (moved said.entries)) (sym long) (moved_of place source said.entries later s))
     (joined old.entries (moved said.entries) apart) m
+
+pub joins_as_first : (place : ℕ) (document : List Placed) (old said : OntologyState) → place ≡ zero → IsOf place document said → Joins place document old said
+joins_as_first place document old said is of = subst (λ n. IsOf n document said → Joins n document old said) (sym is) (joins_first document old said) of
+
+-- ---- file after file
+
+one_more : (sources : List SourceFile) (at : ℕ) (source : SourceFile) → at < length sources → source ≡ get_or sources at source → take at sources ++ source ∷ [] ≡ take (at + 1) sources
+one_more sources at source within is =
+    let next : suc at ≡ at + 1 = omega arith in
+    ap (λ (x : SourceFile). take at sources ++ x ∷ []) is ∙ sym (take-suc sources at source within) ∙ ap (λ n. take n sources) next
+
+pub merged_more : (sources : List SourceFile) (at : ℕ) (source : SourceFile) (old new : OntologyState)
+    → at < length sources → source ≡ get_or sources at source → Joins at source.document old new → IsMerged (take at sources) old → IsMerged (take (at + 1) sources) new
+merged_more sources at source old new within is joins m =
+    subst (λ some. IsMerged some new) (one_more sources at source within is)
+    (joins (take at sources) source (length-take-le at sources (omega arith)) refl m)
+
+pub noted_more : (sources : List SourceFile) (at : ℕ) (source : SourceFile) (old new : List FileNote) (note : FileNote)
+    → at < length sources → source ≡ get_or sources at source → note ≡ file_note source → old ≡ map file_note (take at sources) → new ≡ old ++ note ∷ [] → new ≡ map file_note (take (at + 1) sources)
+noted_more sources at source old new note within is noted before more =
+    more
+    ∙ ap (λ notes. notes ++ note ∷ []) before
+    ∙ ap (λ (n : FileNote). map file_note (take at sources) ++ n ∷ []) noted
+    ∙ sym (map-append file_note (take at sources) (source ∷ []))
+    ∙ ap (map file_note) (one_more sources at source within is)

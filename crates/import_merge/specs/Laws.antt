@@ -5,7 +5,8 @@ use Rattle.owl_axioms.specs.declared.body.Axiom.{Axiom}
 use Rattle.owl_ontology.specs.Ontology.{OntologyState}
 use Rattle.owl_ontology.specs.Same.{SaysTheSame}
 use Rattle.import_closure.specs.declared.files.SourceFile.{SourceFile}
-use Rattle.import_merge.specs.Merged.{IsMerged, first_name, is_ontology_note, said_in}
+use Rattle.spelling_laws.specs.Laws.{is_ontology_note}
+use Rattle.import_merge.specs.Merged.{IsMerged, first_name, said_in}
 
 -- the files decide the axioms and where each comes from
 abbrev pub FilesDecide : OntologyState → OntologyState → Type 0

@@ -1,25 +1,16 @@
 -- The ontology of a list of files: what each of them gives, and what all give together. (Own; that the axioms of an
 -- ontology and of what it imports are taken together: OWL 2 Structural Specification and Functional-Style Syntax, section 3.4.)
-use Rattle.std.specs.Prelude.{◌≡◌, ℕ, zero, suc, Bool, true, false, not, List, [], ◌∷◌, IsFalse, Option, None, Some, filter, map, slice_get}
+use Rattle.std.specs.Prelude.{◌≡◌, ℕ, zero, suc, List, [], ◌∷◌, IsFalse, Option, None, Some, map, slice_get}
 use Rattle.text_sets.specs.Sets.{In}
 use Rattle.owl_axioms.specs.declared.body.Axiom.{Axiom}
-use Rattle.owl_axioms.specs.declared.body.Body.{Body}
-use Rattle.owl_axioms.specs.declared.body.Body.TheVariants as body
 use Rattle.owl_ontology.specs.Ontology.{Entry, OntologyState, axioms_of, entry_of}
 use Rattle.owl_ontology.specs.Origins.{comes_before}
 use Rattle.owl_ontology.specs.declared.origin.Origin.{Origin}
 use Rattle.obo_frames.specs.Framed.{unlined}
 use Rattle.obo_mapping.specs.Documents.{name_of, owl}
 use Rattle.obo_mapping.specs.Lines.{line_of}
+use Rattle.spelling_laws.specs.Laws.{without_ontology_notes}
 use Rattle.import_closure.specs.declared.files.SourceFile.{SourceFile}
-
--- a note about the ontology itself
-abbrev pub is_ontology_note : Axiom → Bool
-is_ontology_note one = is_note one.body
-  where
-    is_note : Body → Bool
-    is_note (body.OntologyNote property value) = true
-    is_note _ = false
 
 -- the axioms that a file says
 abbrev pub said_in : SourceFile → List Axiom
@@ -28,7 +19,7 @@ said_in source = owl (map unlined source.document)
 -- the axioms that a file gives, by its place in the list: of its notes about the ontology those of the first file alone
 abbrev pub given_by : ℕ → SourceFile → List Axiom
 given_by zero source = said_in source
-given_by (suc place) source = filter (λ one. not (is_ontology_note one)) (said_in source)
+given_by (suc place) source = without_ontology_notes (said_in source)
 
 -- some file gives the axiom, and it stands there in this line
 pub record IsGiven (sources : List SourceFile) (entry : Entry) : Type 0 where

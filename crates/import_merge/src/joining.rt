@@ -3,8 +3,8 @@ ghost use Rattle.std.specs.Prelude.{◌≡◌, ◌<◌, [], ◌∷◌, IfOk, OnO
 ghost use Rattle.owl_ontology.specs.Ontology.{entry_of};
 ghost use Rattle.owl_axioms.specs.Proper.{IsProper};
 ghost use Rattle.obo_to_owl.specs.Reports.{dropped};
-ghost use Rattle.import_merge.specs.Merged.{is_ontology_note};
-ghost use Rattle.import_merge.specs.inner.Joining.{Joins, with_moved};
+ghost use Rattle.spelling_laws.specs.Laws.{is_ontology_note};
+ghost use Rattle.import_merge.specs.inner.Joining.{Joins, KeepsSpelling, with_moved};
 
 use obo_frames::Document;
 use obo_to_owl::{Dropped, Translated, translate};
@@ -22,8 +22,10 @@ pub fn join(
     place: u32,
 ) -> Result<Items<Dropped>, NoMemory>
     ensures joins { OnOk result (Joins place document.now ontology.old ontology.new) }
+    ensures spelling { OnOk result (KeepsSpelling ontology.old ontology.new) }
     ensures dropped { IfOk result (λ reports. reports ≡ dropped document.now) }
 {
+    let _sound = document.len();
     let Translated {
         ontology: said,
         dropped,

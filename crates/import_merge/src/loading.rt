@@ -2,10 +2,12 @@
 ghost use Rattle.std.specs.Prelude.{◌≡◌, ◌+◌, ◌^◌, ◌<◌, IfOk, OnOk, length};
 ghost use Rattle.std.specs.Option.{option_copied};
 ghost use Rattle.rel_io.specs.FolderState.{NoCountFell};
+ghost use Rattle.owl_ontology.specs.Ontology.{axioms_of};
+ghost use Rattle.obo_mapping.specs.Back.{IsSpellable};
 ghost use Rattle.import_closure.specs.Closure.{reading};
 ghost use Rattle.import_closure.specs.Loading.{LoadsAs};
 ghost use Rattle.import_merge.specs.Notes.{IsLoaded, file_note};
-ghost use Rattle.import_merge.specs.inner.Joining.{Joins};
+ghost use Rattle.import_merge.specs.inner.Joining.{Joins, KeepsSpelling};
 
 use crate::frames::frame_count;
 use crate::joining::join;
@@ -27,18 +29,29 @@ pub fn load<F: Folder>(
 ) -> Result<Merged, LoadFault>
     requires few { limits.now.bytes + 1 < 2 ^ 32 }
     ensures loads { LoadsAs IsLoaded (λ files. reading files inputs.now (option_copied catalog.entry) limits.now) (F.state folder.old) result (F.state folder.new) }
+    ensures spellable { IfOk result (λ merged. IsSpellable merged.ontology.name (axioms_of merged.ontology.entries)) }
     ensures holds { (F.state folder.new).holds ≡ (F.state folder.old).holds }
     ensures counts { NoCountFell (F.state folder.old) (F.state folder.new) }
 {
     let sources = read_files(alloc, folder, inputs, catalog, limits)?;
+    let _few = file_limit(limits);
     let merged = merged(alloc, sources.as_slice())?;
     Ok(merged)
+}
+
+/// How many files there may be. That is a number of 32 bits.
+fn file_limit(limits: &Limits) -> u32
+    ensures is { result ≡ limits.now.files }
+    ensures small { result < 2 ^ 32 }
+{
+    limits.files
 }
 
 /// The ontology of files, with a note of each.
 fn merged(alloc: Global, sources: &[SourceFile]) -> Result<Merged, NoMemory>
     requires few { length sources.now < 2 ^ 32 }
-    ensures { IfOk result (IsLoaded sources.now) }
+    ensures loaded { IfOk result (IsLoaded sources.now) }
+    ensures spellable { IfOk result (λ merged. IsSpellable merged.ontology.name (axioms_of merged.ontology.entries)) }
 {
     let mut ontology = Ontology::new(alloc, None)?;
     let mut files = Vec::with_capacity(alloc, sources.len())?;
@@ -58,6 +71,7 @@ fn join_file(
     place: u32,
 ) -> Result<FileNote, NoMemory>
     ensures joins { OnOk result (Joins place source.now.document ontology.old ontology.new) }
+    ensures spelling { OnOk result (KeepsSpelling ontology.old ontology.new) }
     ensures note { IfOk result (λ note. note ≡ file_note source.now) }
 {
     let dropped = join(alloc, ontology, &source.document, place)?;

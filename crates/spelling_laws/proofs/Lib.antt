@@ -4,5 +4,6 @@ pub mod Homes
 pub mod Inclusions
 pub mod Matching
 pub mod NotesAlike
+pub mod Reading
 pub mod SameIds
 pub mod StatementsAlike

@@ -1,6 +1,6 @@
--- Which lists of axioms can be written as a document, where axioms are put together: the name and the order do not matter,
--- and more declarations do no harm. (Own.)
-use Rattle.std.specs.Prelude.{ℕ, ◌≡◌, Bool, true, false, not, ◌⊎◌, List, [], ◌++◌, Option, IsSome, filter}
+-- Which lists of axioms can be written as a document: those that are read of one, and those that are put together. The name
+-- and the order do not matter, and more declarations do no harm. (Own.)
+use Rattle.std.specs.Prelude.{ℕ, ◌≡◌, Bool, true, false, not, ◌⊎◌, List, [], ◌++◌, Option, IsSome, filter, map}
 use Rattle.std.specs.List.{filter_map}
 use Rattle.iri_map.specs.Candidate.{id_of}
 use Rattle.text_sets.specs.Sets.{In, SameMembers}
@@ -11,10 +11,13 @@ use Rattle.owl_axioms.specs.Proper.{IsProper}
 use Rattle.owl_axioms.specs.declared.expr.ClassExpr.{ClassExpr}
 use Rattle.owl_axioms.specs.declared.expr.ClassExpr.TheVariants as expr
 use Rattle.owl_axioms.specs.declared.name.Name.{Name}
+use Rattle.obo_frames.specs.Framed.{unlined}
+use Rattle.obo_frames.specs.Soundness.{IsSound}
+use Rattle.obo_frames.specs.declared.placed.Placed.{Placed}
 use Rattle.obo_statements.specs.Anchors.{anchors, class_entity}
 use Rattle.obo_statements.specs.Groups.{intersection, operand_value}
 use Rattle.obo_mapping.specs.Back.{IsSpellable, writing_of}
-use Rattle.obo_mapping.specs.Documents.{declared_in}
+use Rattle.obo_mapping.specs.Documents.{declared_in, name_of, owl}
 
 -- an IRI that has an id in an ontology of one name has one in an ontology of any name
 abbrev pub IdsGoByNoName : Type 0
@@ -23,6 +26,15 @@ IdsGoByNoName = (iri one other : List ℕ) → IsSome (id_of iri one) → IsSome
 -- the same axioms in any order, with any repeats
 abbrev pub SpellableIsOfSet : Type 0
 SpellableIsOfSet = (name : Option (List ℕ)) (axioms others : List Axiom) → SameMembers others axioms → IsSpellable name axioms → IsSpellable name others
+
+-- under the name of a document, the axioms that it says, in any order and with any repeats
+pub record IsRead (document : List Placed) (called : Option (List ℕ)) (axioms : List Axiom) : Type 0 where
+  pub name : called ≡ name_of (map unlined document)
+  pub says : SameMembers axioms (owl (map unlined document))
+
+-- what is read can be written
+abbrev pub ReadCanBeWritten : Type 0
+ReadCanBeWritten = (document : List Placed) (name : Option (List ℕ)) (axioms : List Axiom) → IsSound document → IsRead document name axioms → IsSpellable name axioms
 
 -- each axiom is of one of two lists, and all that either declares is declared
 pub record IsGathered (some others gathered : List Axiom) : Type 0 where

@@ -5,6 +5,7 @@ ghost use Rattle.spelling_laws.specs.Laws.{
   InclusionsKeepSpelling,
   MergingKeepsSpelling,
   PartKeepsSpelling,
+  ReadCanBeWritten,
   SpellableIsOfSet,
 };
 
@@ -16,6 +17,11 @@ pub fn ids_go_by_no_name()
 /// Whether an ontology can be written goes by the set of its axioms.
 pub fn spellable_is_of_set()
     ensures { SpellableIsOfSet }
+{}
+
+/// Under the name of a document, the axioms that it says can be written.
+pub fn read_can_be_written()
+    ensures { ReadCanBeWritten }
 {}
 
 /// Axioms of two ontologies that can be written can be written together, where all that is declared stays declared.

@@ -1,5 +1,4 @@
 pub mod Flagged
-pub mod Reading
 pub mod Reducing
 pub mod Relaxing
 pub mod Shipping

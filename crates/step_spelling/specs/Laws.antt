@@ -1,15 +1,9 @@
--- What is read of a document can be written as one, and stays so with each step: after relaxing, after reducing, and as what
--- a module is shipped with. (Own.)
-use Rattle.std.specs.Prelude.{◌≡◌, ℕ, Bool, List, Option, length, map}
-use Rattle.text_sets.specs.Sets.{SameMembers}
-use Rattle.obo_frames.specs.Framed.{unlined}
-use Rattle.obo_frames.specs.Soundness.{IsSound}
-use Rattle.obo_frames.specs.declared.placed.Placed.{Placed}
+-- What can be written as a document stays so with each step: after relaxing, after reducing, and as what a module is shipped
+-- with. (Own.)
+use Rattle.std.specs.Prelude.{◌≡◌, ℕ, Bool, List, length}
 use Rattle.owl_axioms.specs.Names.{Scope}
-use Rattle.owl_axioms.specs.declared.body.Axiom.{Axiom}
 use Rattle.owl_ontology.specs.Ontology.{OntologyState, axioms_of, flagged}
 use Rattle.obo_mapping.specs.Back.{IsSpellable}
-use Rattle.obo_mapping.specs.Documents.{name_of, owl}
 use Rattle.relax_axioms.specs.Relax.{Relaxes}
 use Rattle.reduce_edges.specs.Reduce.{Reduces}
 use Rattle.module_extract.specs.Shipped.{shipped_flags}
@@ -17,14 +11,6 @@ use Rattle.module_extract.specs.Shipped.{shipped_flags}
 -- the ontology can be written as a document
 abbrev pub CanBeWritten : OntologyState → Type 0
 CanBeWritten ontology = IsSpellable ontology.name (axioms_of ontology.entries)
-
--- under the name of a document, the axioms that it says, in any order and with any repeats
-pub record IsRead (document : List Placed) (called : Option (List ℕ)) (axioms : List Axiom) : Type 0 where
-  pub name : called ≡ name_of (map unlined document)
-  pub says : SameMembers axioms (owl (map unlined document))
-
-abbrev pub ReadCanBeWritten : Type 0
-ReadCanBeWritten = (document : List Placed) (name : Option (List ℕ)) (axioms : List Axiom) → IsSound document → IsRead document name axioms → IsSpellable name axioms
 
 abbrev pub RelaxingKeepsSpelling : Type 0
 RelaxingKeepsSpelling = (before after : OntologyState) (count : ℕ) → Relaxes before after count → CanBeWritten before → CanBeWritten after

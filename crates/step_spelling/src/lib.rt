@@ -1,9 +1,7 @@
-//! What is read of a document can be written as one, and stays so with each step. The layer above takes its steps by these laws, and so
-//! never meets an ontology without a document for want of a form.
+//! What can be written as a document stays so with each step. The layer above takes its steps by these laws, and so never
+//! meets an ontology without a document for want of a form.
 #![tactic(auto)]
 
 mod laws;
 
-pub use laws::{
-    read_can_be_written, reducing_keeps_spelling, relaxing_keeps_spelling, shipping_keeps_spelling,
-};
+pub use laws::{reducing_keeps_spelling, relaxing_keeps_spelling, shipping_keeps_spelling};

@@ -15,7 +15,7 @@ returns c =
     let document = c.args.document.now in
     let space : c.in_ok-space.space ≡ space_of (map unlined document) =
     c.in_ok-space.ensures ∙ ap (λ name. name_or_temp name) (c.as_ref.ensures.value ∙ c.in_ok-name.ensures) ∙ sym (same_space (map unlined document)) in
-    c.as_slice-2.ensures.len
+    ap length c.as_slice-2.ensures.value
     ∙ ap length c.once.ensures
     ∙ counted (frame_key (space_of (map unlined document))) text_of (filter is_naming (map unlined document)) c.in_ok-frames.frames.items
     (c.in_ok-frames.ensures ∙ ap (keys_in c.in_ok-space.space) c.as_slice.ensures ∙ ap (λ s. keys_in s document) space)

@@ -8,7 +8,7 @@ use Rattle.obo_mapping.specs.Documents.{name_of, owl}
 use Rattle.obo_normal_form.proofs.ProperOwl.{owl_is_spellable}
 use Rattle.sound_documents.proofs.FrameSound.{sound_from}
 use Rattle.spelling_laws.proofs.Gathering.{spellable_is_of_set}
-use Rattle.step_spelling.specs.Laws.{ReadCanBeWritten}
+use Rattle.spelling_laws.specs.Laws.{ReadCanBeWritten}
 
 pub read_can_be_written : ReadCanBeWritten
 read_can_be_written document name axioms sound is =
