@@ -7,5 +7,6 @@ pub mod Loading
 pub mod Names
 pub mod Outputs
 pub mod Parts
+pub mod StepLaws
 pub mod Turns
 pub mod Unbuilt

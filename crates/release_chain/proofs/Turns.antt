@@ -11,8 +11,8 @@ use Rattle.chain_words.specs.declared.command.Step.{Step}
 use Rattle.chain_words.specs.declared.command.Step.TheVariants.{Extract, Reason, Relax, Reduce, Convert}
 use Rattle.release_report.specs.declared.fault.Fault.{Fault}
 use Rattle.release_chain.specs.Ending.{Ends, SameAt, SameAtAll}
-use Rattle.release_chain.specs.Part.{then_do}
-use Rattle.release_chain.specs.Run.{Trace, checked, output_part, step_part, steps_part, turn_part}
+use Rattle.release_chain.specs.Part.{answers, reads, then_do}
+use Rattle.release_chain.specs.Run.{Trace, checked, extracted_or, output_part, seed_in, step_part, steps_part, turn_part}
 use Rattle.release_chain.specs.declared.work.Work.{Work}
 use Rattle.release_chain.specs.inner.Names.{AreApart, all_read, all_written, put_names}
 use Rattle.release_chain.specs.inner.Work.{HasForms, IsAt}
@@ -41,7 +41,8 @@ any_later p xs ys here = list_any-append p xs ys ∙ or_right (list_any p xs) (l
 
 -- a step writes nothing itself
 pub step_puts : (files : Files) (step : Step) (trace state : Trace) → (step_part files step trace).answer ≡ Ok state → put_names (step_part files step trace).acts ≡ []
-step_puts files (Extract method terms) trace state is = refl
+step_puts files (Extract method terms) trace state is =
+    names_then (reads files terms).acts (reads files terms).answer (λ bytes. answers (extracted_or method trace (seed_in terms trace.ontology bytes))) state [] [] is (λ _ _. refl) (λ _ _ _. refl)
 step_puts files Reason trace state is = refl
 step_puts files Relax trace state is = refl
 step_puts files (Reduce keep) trace state is = refl

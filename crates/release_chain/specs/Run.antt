@@ -6,17 +6,22 @@ use Rattle.std.specs.Option.{option_map, option_or}
 use Rattle.rel_io.specs.FolderState.{Files}
 use Rattle.rel_io.specs.Limits as limits
 use Rattle.rel_io.specs.declared.limits.Limits.{Limits}
-use Rattle.owl_axioms.specs.Names.{Scope, all_names}
+use Rattle.iri_map.specs.Ontology.{name_or_temp}
+use Rattle.text_sets.specs.Sorted.{sorted_by}
+use Rattle.owl_axioms.specs.Names.{Scope, all_names, common}
+use Rattle.owl_axioms.specs.Signature.{added, no_names, scope_of}
 use Rattle.owl_ontology.specs.Ontology.{OntologyState, axioms_of}
 use Rattle.owl_ontology.specs.declared.origin.Origin.{Origin}
 use Rattle.chain_words.specs.Word.{Name, Word}
 use Rattle.chain_words.specs.Fault.{Reading}
 use Rattle.chain_words.specs.Read.{chain}
+use Rattle.chain_words.specs.Setting.{method_word}
 use Rattle.chain_words.specs.declared.command.Chain.{Chain}
 use Rattle.chain_words.specs.declared.command.Command.{Command}
 use Rattle.chain_words.specs.declared.command.Command.TheVariants.{Run, Generate}
 use Rattle.chain_words.specs.declared.command.Format.{Format}
 use Rattle.chain_words.specs.declared.command.Format.TheVariants.{Obo, Ofn}
+use Rattle.chain_words.specs.declared.command.Method.{Method}
 use Rattle.chain_words.specs.declared.command.Output.{Output as Wanted}
 use Rattle.chain_words.specs.declared.command.Step.{Step}
 use Rattle.chain_words.specs.declared.command.Step.TheVariants.{Extract, Reason, Relax, Reduce, Convert}
@@ -28,6 +33,13 @@ use Rattle.import_closure.specs.declared.files.SourceFile.{SourceFile}
 use Rattle.import_merge.specs.Merged.{IsMerged}
 use Rattle.import_merge.specs.Notes.{file_note}
 use Rattle.import_merge.specs.declared.merged.FileNote.{FileNote}
+use Rattle.seed_list.specs.Seed.{names_of}
+use Rattle.seed_list.specs.Terms.{iris_of}
+use Rattle.seed_list.specs.declared.seed.Seed.{Seed}
+use Rattle.extract_step.specs.Extract.{chosen, extracted}
+use Rattle.extract_step.specs.Known.{unknown_count}
+use Rattle.relax_axioms.specs.Relax.{relax_of}
+use Rattle.reduce_edges.specs.Reduce.{reduce_of}
 use Rattle.obo_mapping.specs.TwoValues.{TwoGiven, two_values}
 use Rattle.obo_to_owl.specs.declared.translated.Dropped.{Dropped}
 use Rattle.release_report.specs.declared.entry.Entry.{Entry}
@@ -36,7 +48,7 @@ use Rattle.release_report.specs.declared.fault.Fault.{Fault}
 use Rattle.release_report.specs.declared.fault.Fault.TheVariants as fault
 use Rattle.release_chain.specs.Counts.{counts_of}
 use Rattle.release_chain.specs.Outputs.{Made, text_of}
-use Rattle.release_chain.specs.Part.{Act, Opens, Output, Part, answers, gives, puts, then_do}
+use Rattle.release_chain.specs.Part.{Act, Opens, Output, Part, answers, gives, puts, reads, then_do}
 
 -- what a run has come to
 pub record Trace : Type 0 where
@@ -114,11 +126,56 @@ IsOrder files chain (Some merged) = IfOk (sources_of files chain).answer (λ sou
 
 -- ---- the steps
 
+-- the seed of a term file, by the IRIs of its terms, or why it has none
+abbrev pub seed_of : List (List ℕ) → Seed
+seed_of read =
+    let iris = sorted_by (λ (iri : List ℕ). iri) read in record { sig = added no_names (flat_map names_of iris); iris = iris }
+
+abbrev pub seed_or : Name → Result (List (List ℕ)) ℕ → Result Seed Fault
+seed_or file (Ok []) = Err (fault.EmptySeed file)
+seed_or file (Ok (iri ∷ iris)) = Ok (seed_of (iri ∷ iris))
+seed_or file (Err line) = Err (fault.SeedLine file line)
+
+-- its terms are read as ids in the ontology
+abbrev pub seed_in : Name → OntologyState → List ℕ → Result Seed Fault
+seed_in file ontology bytes = seed_or file (iris_of (name_or_temp ontology.name) limits.seed_lines bytes)
+
+-- extract: what is shipped with the module of the seed, which keeps what was there over the names of the seed
+abbrev pub extracted_entry : Method → Seed → OntologyState → Entry
+extracted_entry method seed before =
+    entry.Extracted (method_word method) (counts_of (axioms_of (extracted method seed before).entries)) (unknown_count (axioms_of before.entries) seed.iris)
+    (chosen method (scope_of seed.sig) (axioms_of before.entries)).1
+
+abbrev pub extracted_trace : Method → Trace → Seed → Trace
+extracted_trace method trace seed = record trace {
+  ontology = extracted method seed trace.ontology;
+  scope = common trace.scope (scope_of seed.sig);
+  entries = trace.entries ++ extracted_entry method seed trace.ontology ∷ [];
+}
+
+abbrev pub extracted_or : Method → Trace → Result Seed Fault → Result Trace Fault
+extracted_or method trace (Ok seed) = Ok (extracted_trace method trace seed)
+extracted_or method trace (Err one) = Err one
+
+abbrev pub extract_part : Files → Method → Name → Trace → Part Trace
+extract_part files method terms trace = then_do (reads files terms) (λ bytes. answers (extracted_or method trace (seed_in terms trace.ontology bytes)))
+
+-- relax
+abbrev pub relaxed_trace : Trace → Trace
+relaxed_trace trace =
+    let made = relax_of trace.ontology in record trace { ontology = made.0; entries = trace.entries ++ entry.Relaxed made.1 ∷ [] }
+
+-- reduce
+abbrev pub reduced_trace : Bool → Trace → Trace
+reduced_trace keep trace =
+    let made = reduce_of keep trace.ontology in record trace { ontology = made.0; entries = trace.entries ++ entry.Reduced made.1 ∷ [] }
+
+-- what each step does and comes to
 abbrev pub step_part : Files → Step → Trace → Part Trace
-step_part files (Extract method terms) trace = gives trace
+step_part files (Extract method terms) trace = extract_part files method terms trace
 step_part files Reason trace = gives trace
-step_part files Relax trace = gives trace
-step_part files (Reduce keep) trace = gives trace
+step_part files Relax trace = gives (relaxed_trace trace)
+step_part files (Reduce keep) trace = gives (reduced_trace keep trace)
 step_part files Convert trace = gives trace
 
 -- ---- the outputs
@@ -178,8 +235,8 @@ chain_part files merged chain = then_do (then_do (load_part files merged chain) 
 -- ---- the words
 
 abbrev pub is_built : Step → Bool
-is_built Convert = true
-is_built other = false
+is_built Reason = false
+is_built other = true
 
 -- the least step that is not supported yet, counted from this number
 abbrev pub first_unbuilt : ℕ → List (Step × Option Wanted) → Option ℕ

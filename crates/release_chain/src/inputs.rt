@@ -4,8 +4,6 @@ ghost use Rattle.rel_io.specs.FolderState.{Files, NoCountFell};
 ghost use Rattle.owl_ontology.specs.Ontology.{axioms_of};
 ghost use Rattle.import_merge.specs.declared.merged.FileNote.{FileNote};
 ghost use Rattle.release_chain.specs.Answer.{AnswersAs};
-ghost use Rattle.release_chain.specs.Counts.{counts_of};
-ghost use Rattle.release_chain.specs.inner.Counting.{HaveRoom, counted};
 ghost use Rattle.release_chain.specs.Ending.{Caused};
 ghost use Rattle.import_closure.specs.Loading.{LoadsAs};
 ghost use Rattle.import_merge.specs.Notes.{IsLoaded};
@@ -14,15 +12,14 @@ ghost use Rattle.release_chain.specs.inner.Finish.{LoadEnds};
 ghost use Rattle.release_chain.specs.inner.Work.{HasForms, IsAt};
 ghost use Rattle.obo_mapping.specs.Back.{IsSpellable};
 
+use crate::counting::counts_of;
 use crate::work::{Work, noted};
 use chain_words::Chain;
 use import_closure::LoadFault;
 use import_merge::{FileNote, Merged, load};
 use obo_to_owl::Dropped;
-use owl_axioms::Body;
-use owl_ontology::Ontology;
 use rel_io::{Bytes, Dup, Folder, Items, Limits, NoMemory};
-use release_report::{Counts, Entry, Fault};
+use release_report::{Entry, Fault};
 use std::alloc::Global;
 
 /// Reads and merges the inputs.
@@ -126,42 +123,6 @@ fn dropped_entries(alloc: Global, dropped: Items<Dropped>) -> Result<Items<(u32,
         made.push((line, tag))?;
     }
     Ok(Items::from_vec(made))
-}
-
-/// How many axioms there are, by what they say.
-fn counts_of(ontology: &Ontology) -> Counts
-    ensures { result ≡ counts_of (axioms_of ontology.now.entries) }
-{
-    let mut counts = Counts {
-        logical: 0,
-        declared: 0,
-        notes: 0,
-    };
-    for at in 0..ontology.len() {
-        counts = counted(counts, &ontology.get(at).body);
-    }
-    counts
-}
-
-/// The counts with one axiom more.
-fn counted(counts: Counts, body: &Body) -> Counts
-    requires { HaveRoom counts }
-    ensures { result ≡ counted counts body.now }
-{
-    match body {
-        Body::Declaration(_) => Counts {
-            declared: counts.declared + 1,
-            ..counts
-        },
-        Body::Note(..) | Body::OntologyNote(..) => Counts {
-            notes: counts.notes + 1,
-            ..counts
-        },
-        _ => Counts {
-            logical: counts.logical + 1,
-            ..counts
-        },
-    }
 }
 
 /// The fault of a run whose inputs are not loaded.

@@ -7,11 +7,15 @@
 //! its own crate brings that what it makes keeps what was there over its scope, and that each axiom has a form in OBO.
 #![tactic(auto)]
 
+mod axioms;
 mod chain;
+mod counting;
 mod ended;
 mod inputs;
+mod modules;
 mod output;
 mod program;
+mod reading;
 mod steps;
 mod work;
 

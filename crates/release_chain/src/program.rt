@@ -21,7 +21,7 @@ use std::alloc::Global;
 fn is_built(step: &Step) -> bool
     ensures { result ≡ spec.is_built step.now }
 {
-    matches!(step, Step::Convert)
+    !matches!(step, Step::Reason)
 }
 
 /// The least step that is not supported yet; `merge` is step 0.

@@ -7,6 +7,8 @@ ghost use Rattle.release_chain.specs.Run.{Trace, step_part, steps_part, turn_par
 ghost use Rattle.release_chain.specs.inner.Names.{AreApart, all_read};
 ghost use Rattle.release_chain.specs.inner.Work.{HasForms, IsAt};
 
+use crate::axioms::{reduced, relaxed};
+use crate::modules::extract_terms;
 use crate::output::put_output;
 use crate::work::Work;
 use chain_words::{Output, Step};
@@ -23,9 +25,10 @@ fn do_step<F: Folder>(alloc: Global, folder: &mut F, step: &Step, work: Work) ->
     ensures ends { (files : Files) (trace : Trace) → IsAt work trace → SameAtAll (reads_of step.now) files (F.state folder.old).holds → Ends IsAt (step_part files step.now trace) result (F.state folder.old).holds (F.state folder.new).holds }
 {
     match step {
-        Step::Extract { .. } | Step::Reason | Step::Relax | Step::Reduce { .. } | Step::Convert => {
-            Ok(work)
-        }
+        Step::Extract { method, terms } => extract_terms(alloc, folder, *method, terms, work),
+        Step::Relax => relaxed(alloc, work),
+        Step::Reduce { keep } => reduced(alloc, *keep, work),
+        Step::Reason | Step::Convert => Ok(work),
     }
 }
 

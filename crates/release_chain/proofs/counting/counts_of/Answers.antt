@@ -3,7 +3,7 @@ use Rattle.std.proofs.lemmas.List.{length-map}
 use Rattle.owl_ontology.specs.Ontology.{Entry, axioms_of}
 use Rattle.release_chain.specs.inner.Counting.{HaveRoom, counted}
 use Rattle.release_chain.proofs.CountLemmas.{counted_all, counted_more, has_room}
-use Rattle.release_chain.proofs.inputs.counts_of.Goals as goal
+use Rattle.release_chain.proofs.counting.counts_of.Goals as goal
 
 pub counted-counts-requires : goal.counted-counts-requires
 counted-counts-requires c = subst HaveRoom (sym c.loop-at.invariant) (has_room (axioms_of c.args.ontology.now.entries) c.loop-at.at (omega arith))
