@@ -7,6 +7,7 @@ pub mod Loading
 pub mod Names
 pub mod Outputs
 pub mod Parts
+pub mod Seeds
 pub mod StepLaws
 pub mod Turns
 pub mod Unbuilt

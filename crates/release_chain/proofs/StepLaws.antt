@@ -45,6 +45,20 @@ changed_is_at work after trace made line at ontology files entries keeps = recor
       (subst (λ (o : OntologyState). KeepsAll (axioms_of o.entries) (axioms_of made.entries)) at.ontology keeps.0);
 }
 
+-- behind relax
+pub relaxed_is_at : (work after : Work) (trace : Trace) (made : OntologyState × ℕ) → IsAt work trace → relax_of work.ontology ≡ made → after.ontology ≡ made.0 → after.files ≡ work.files → after.entries ≡ work.entries ++ entry.Relaxed made.1 ∷ []
+    → KeepBoth (axioms_of work.ontology.entries) (axioms_of made.0.entries) → IsAt after (relaxed_trace trace)
+relaxed_is_at work after trace made at is ontology files entries keeps =
+    subst (λ (m : OntologyState × ℕ). IsAt after (record trace { ontology = m.0; entries = trace.entries ++ entry.Relaxed m.1 ∷ [] })) (sym is ∙ ap relax_of at.ontology)
+    (changed_is_at work after trace made.0 (entry.Relaxed made.1) at ontology files entries keeps)
+
+-- behind reduce
+pub reduced_is_at : (keep : Bool) (work after : Work) (trace : Trace) (made : OntologyState × ℕ) → IsAt work trace → reduce_of keep work.ontology ≡ made → after.ontology ≡ made.0 → after.files ≡ work.files → after.entries ≡ work.entries ++ entry.Reduced made.1 ∷ []
+    → KeepBoth (axioms_of work.ontology.entries) (axioms_of made.0.entries) → IsAt after (reduced_trace keep trace)
+reduced_is_at keep work after trace made at is ontology files entries keeps =
+    subst (λ (m : OntologyState × ℕ). IsAt after (record trace { ontology = m.0; entries = trace.entries ++ entry.Reduced m.1 ∷ [] })) (sym is ∙ ap (reduce_of keep) at.ontology)
+    (changed_is_at work after trace made.0 (entry.Reduced made.1) at ontology files entries keeps)
+
 -- and behind an extract
 pub extracted_is_at : (work after : Work) (trace : Trace) (method : Method) (seed : Seed) → IsAt work trace → after.ontology ≡ extracted method seed work.ontology → after.files ≡ work.files
     → after.entries ≡ work.entries ++ extracted_entry method seed work.ontology ∷ []
