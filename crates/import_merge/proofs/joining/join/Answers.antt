@@ -1,6 +1,5 @@
-use Rattle.std.proofs.Common.{◌≡◌, ℕ, zero, false, sym, subst, arith}
-use Rattle.std.proofs.lemmas.Bool.Decides.{nat_tests}
-use Rattle.import_merge.specs.inner.Joining.{Joins, with_moved}
+use Rattle.std.proofs.Common.{sym, subst}
+use Rattle.import_merge.specs.inner.Joining.{Joins}
 use Rattle.import_merge.proofs.MoveLemmas.{IsOf, joins_as_first, joins_later}
 use Rattle.import_merge.proofs.joining.join.Goals as goal
 use Rattle.import_merge.proofs.joining.join.Goals.{then-place-eq0, else-place-eq0+in_ok-move_into}
