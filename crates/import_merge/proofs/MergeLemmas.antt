@@ -1,5 +1,5 @@
 -- One file more: what its axioms and an ontology of the files before it come to is the ontology of all of them.
-use Rattle.std.proofs.Common.{◌≡◌, ◌⊎◌, ◌∙◌, ℕ, zero, suc, false, List, [], ◌∷◌, ◌++◌, None, Some, inl, inr, ⊎_elim, length, map, slice_get, refl, sym, ap, subst}
+use Rattle.std.proofs.Common.{◌≡◌, ◌⊎◌, ◌∙◌, ℕ, false, List, [], ◌∷◌, ◌++◌, None, Some, inl, inr, ⊎_elim, length, slice_get, refl, sym, ap, subst}
 use Rattle.text_sets.specs.Sets.{In}
 use Rattle.text_sets.proofs.SetLemmas.{In-from_map}
 use Rattle.owl_axioms.specs.declared.body.Axiom.{Axiom}
@@ -7,8 +7,6 @@ use Rattle.owl_ontology.specs.Ontology.{Entry, OntologyState, axioms_of, entry_o
 use Rattle.owl_ontology.specs.Origins.{comes_before}
 use Rattle.owl_ontology.specs.declared.origin.Origin.{Origin}
 use Rattle.owl_ontology.proofs.Least.{before-through}
-use Rattle.obo_frames.specs.Framed.{unlined}
-use Rattle.obo_mapping.specs.Documents.{name_of}
 use Rattle.obo_mapping.specs.Lines.{line_of}
 use Rattle.obo_to_owl.specs.Translated.{IsPlaced}
 use Rattle.import_closure.specs.declared.files.SourceFile.{SourceFile}

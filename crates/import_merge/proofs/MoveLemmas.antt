@@ -1,12 +1,11 @@
 -- Axioms that are moved into an ontology, and the file that joins by them.
-use Rattle.std.proofs.Common.{◌≡◌, ◌⊎◌, ◌∙◌, ℕ, zero, suc, true, false, not, List, [], ◌∷◌, ◌++◌, Contains, inl, inr, ⊎_elim, filter, length, map, refl, sym, ap, subst, ◌<◌, ◌+◌, get_or, take, arith}
+use Rattle.std.proofs.Common.{◌≡◌, ◌∙◌, ℕ, zero, suc, true, false, not, List, [], ◌∷◌, ◌++◌, inl, inr, ⊎_elim, filter, length, map, refl, sym, ap, subst, ◌<◌, ◌+◌, get_or, take, arith}
 use Rattle.std.proofs.Math.Seq.{take-suc}
 use Rattle.std.proofs.lemmas.List.{length-take-le, map-append, reverse-append, reverse-reverse}
 use Rattle.std.proofs.lemmas.List.Elements.{filter-append}
 use Rattle.std.specs.Prelude.{reverse}
 use Rattle.text_sets.specs.Sets.{In, SameMembers}
 use Rattle.text_sets.proofs.SetLemmas.{In-append, In-append_left, In-append_right, In-filter, In-from_contains, In-from_filter, In-from_map, In-map, contains-from_In}
-use Rattle.owl_axioms.specs.declared.body.Axiom.{Axiom}
 use Rattle.owl_ontology.specs.Ontology.{AreDifferent, Entry, OntologyState, add_entries, axioms_of, entry_of}
 use Rattle.owl_ontology.specs.Origins.{comes_before}
 use Rattle.owl_ontology.proofs.Held.{add_entries-append, all_added_is_held, all_held_stays}

@@ -1,5 +1,5 @@
 -- Places of a list.
-use Rattle.std.proofs.Common.{◌≡◌, ◌⊎◌, ℕ, zero, suc, List, [], ◌∷◌, ◌++◌, None, Some, inl, inr, ⊎_elim, length, slice_get, refl, sym, ap}
+use Rattle.std.proofs.Common.{◌≡◌, ◌⊎◌, ℕ, zero, suc, List, [], ◌∷◌, ◌++◌, None, Some, inl, inr, ⊎_elim, length, slice_get, refl, ap}
 use Rattle.text_sets.specs.Sets.{In}
 
 none_is_some : {X : Type 0} (x : X) → None ≡ Some x → ⊥

@@ -6,7 +6,6 @@ use Rattle.obo_tags.specs.declared.kind.FrameKind.{FrameKind}
 use Rattle.obo_tags.specs.declared.kind.FrameKind.TheVariants.{Header, Instance, Term, Typedef}
 use Rattle.obo_tags.specs.Tags as tags
 use Rattle.obo_frames.specs.Framed.{Framed, unlined}
-use Rattle.obo_frames.specs.declared.placed.Placed.{Placed}
 use Rattle.obo_mapping.specs.Documents.{has_tag, is_header, space_of}
 use Rattle.obo_to_owl.specs.Reports.{dropped}
 use Rattle.import_closure.specs.declared.files.SourceFile.{SourceFile}

@@ -1,8 +1,5 @@
 -- The key of a frame, as it is sorted. Only private functions speak of it. (Own.)
 use Rattle.std.specs.Prelude.{◌∷◌, ℕ, List}
-use Rattle.obo_frames.specs.declared.placed.Placed.{Placed}
-use Rattle.obo_frames.specs.Framed.{unlined}
-use Rattle.import_merge.specs.Notes.{frame_key}
 use Rattle.import_merge.specs.declared.frames.FrameName.{FrameName}
 
 -- a frame's name as a text: its kind, and its IRI

@@ -1,8 +1,6 @@
-use Rattle.std.proofs.Common.{◌≡◌, ◌∙◌, List, filter, length, map, ap, sym}
-use Rattle.std.specs.Option.{option_copied}
+use Rattle.std.proofs.Common.{◌≡◌, ◌∙◌, filter, length, map, ap, sym}
 use Rattle.iri_map.specs.Ontology.{name_or_temp}
 use Rattle.obo_frames.specs.Framed.{unlined}
-use Rattle.obo_frames.specs.Naming as naming
 use Rattle.obo_mapping.specs.Documents.{space_of}
 use Rattle.sound_documents.proofs.NameLemmas.{same_space}
 use Rattle.import_merge.specs.Notes.{frame_key, is_naming}
