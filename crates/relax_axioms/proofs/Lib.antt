@@ -1,5 +1,6 @@
 mod Entailed
 mod Lists
 mod Missing
+mod Once
 mod Views
 mod Wanted

@@ -1,5 +1,6 @@
 -- Lists and tests: the first items and one more, and what some item of a list passes.
-use Rattle.std.proofs.Common.{◌≡◌, ℕ, ◌+◌, Bool, true, false, not, ◌&&◌, ◌||◌, cond, List, [], ◌∷◌, ◌++◌, Some, slice_get, take, inl, inr, refl, sym, ap, ◌∙◌, true≢false}
+use Rattle.std.proofs.Common.{◌≡◌, ℕ, ◌+◌, Bool, true, false, not, ◌&&◌, ◌||◌, cond, List, [], ◌∷◌, ◌++◌, Some, slice_get, take, inl, inr, ⊎_elim, refl, sym, ap, subst, ◌∙◌, true≢false}
+use Rattle.std.specs.Prelude.{filter}
 use Rattle.std.specs.List.{list_any}
 use Rattle.std.proofs.lemmas.List.{take_more}
 use Rattle.std.proofs.lemmas.List.Folds.{list_any-append}
@@ -37,27 +38,50 @@ from_any {X = X} p (y ∷ ys) h =
       | false ↦ λ _ rest. let found = from_any p ys rest in (found.0, inr found.1, found.2)
     ] refl h
 
--- one that is taken out of a set
-pub left_without : (taken before : Bool) → cond taken false before ≡ (before && not taken)
-left_without true true = refl
-left_without true false = refl
-left_without false true = refl
-left_without false false = refl
+-- what a filter leaves
+pub in_filter : {X : Type 0} (p : X → Bool) (x : X) (xs : List X) → In x xs → p x ≡ true → In x (filter p xs)
+in_filter p x [] here passes = absurd here
+in_filter p x (y ∷ ys) (inl is) passes = subst (λ b. In x (cond b (y ∷ filter p ys) (filter p ys))) (sym (ap p is ∙ passes)) (inl is)
+in_filter p x (y ∷ ys) (inr later) passes =
+    elim (p y) as (λ b. In x (cond b (y ∷ filter p ys) (filter p ys))) [
+      | true ↦ inr (in_filter p x ys later passes)
+      | false ↦ in_filter p x ys later passes
+    ]
 
-pub without : (taken wanted said : Bool) → ((wanted && not said) && not taken) ≡ (wanted && not (said || taken))
-without true true true = refl
-without true true false = refl
-without true false said = refl
-without false true true = refl
-without false true false = refl
-without false false said = refl
+pub from_filter : {X : Type 0} (p : X → Bool) (x : X) (xs : List X) → In x (filter p xs) → In x xs × (p x ≡ true)
+from_filter p x [] here = absurd here
+from_filter p x (y ∷ ys) here =
+    elim (p y) as (λ b. p y ≡ b → In x (cond b (y ∷ filter p ys) (filter p ys)) → In x (y ∷ ys) × (p x ≡ true)) [
+      | true ↦ λ passes there. ⊎_elim (λ is. (inl is, sym (ap p is) ∙ passes)) (λ later. let rest = from_filter p x ys later in (inr rest.0, rest.1)) there
+      | false ↦ λ _ there. let rest = from_filter p x ys there in (inr rest.0, rest.1)
+    ] refl here
 
--- one that is put into it
-pub with : (put before : Bool) → cond put true before ≡ (before || put)
-with true true = refl
-with true false = refl
-with false true = refl
-with false false = refl
+-- two tests that answer alike on a list leave the same of it
+pub filter_alike : {X : Type 0} (p q : X → Bool) (xs : List X) → ((x : X) → In x xs → p x ≡ q x) → filter p xs ≡ filter q xs
+filter_alike p q [] alike = refl
+filter_alike p q (x ∷ xs) alike = λ i. cond (alike x (inl refl) i) (x ∷ filter_alike p q xs (λ y later. alike y (inr later)) i) (filter_alike p q xs (λ y later. alike y (inr later)) i)
+
+pub filter_both : {X : Type 0} (p q : X → Bool) (xs : List X) → filter p (filter q xs) ≡ filter (λ x. q x && p x) xs
+filter_both p q [] = refl
+filter_both p q (x ∷ xs) =
+    elim (q x) as (λ b. filter p (cond b (x ∷ filter q xs) (filter q xs)) ≡ cond (b && p x) (x ∷ filter (λ y. q y && p y) xs) (filter (λ y. q y && p y) xs)) [
+      | true ↦ ap (λ rest. cond (p x) (x ∷ rest) rest) (filter_both p q xs)
+      | false ↦ filter_both p q xs
+    ]
+
+pub filter_all : {X : Type 0} (xs : List X) → filter (λ x. true) xs ≡ xs
+filter_all [] = refl
+filter_all (x ∷ xs) = ap (λ rest. x ∷ rest) (filter_all xs)
+
+pub within : (x y z : Bool) → ((x && y) || (x && z)) ≡ (x && (y || z))
+within true y z = refl
+within false y z = refl
+
+pub not_or : (x y : Bool) → not (x || y) ≡ (not y && not x)
+not_or true true = refl
+not_or true false = refl
+not_or false true = refl
+not_or false false = refl
 
 pub both_true : (x y : Bool) → (x && y) ≡ true → (x ≡ true) × (y ≡ true)
 both_true true y h = (refl, h)

@@ -1,9 +1,11 @@
 -- What is missing, and what the ontology is with it.
 use Rattle.std.proofs.Common.{◌≡◌, ℕ, ◌+◌, zero, suc, true, false, not, ◌&&◌, List, [], ◌∷◌, ◌++◌, None, Some, Contains, length, map, slice_get, take, inl, inr, refl, sym, ap, subst, ◌∙◌, true≢false, append_assoc, arith, ◌≤◌}
 use Rattle.std.specs.List.{AllByRecursion, IsDistinct, list_any}
+use Rattle.std.specs.Prelude.{filter}
 use Rattle.std.proofs.Math.Bool.{and-true}
 use Rattle.std.proofs.lemmas.List.{map-append, take_all}
 use Rattle.std.proofs.lemmas.Map.Keys.{IsDistinct-head, IsDistinct-tail}
+use Rattle.indexmap.specs.IndexSet.{insert_all}
 use Rattle.owl_axioms.proofs.Listed.{append_in}
 use Rattle.owl_axioms.proofs.Members.{Contains-in, In, In-contains, In-from_map, In-map}
 use Rattle.owl_axioms.specs.Proper.{AreProper, IsProper}
@@ -13,18 +15,33 @@ use Rattle.owl_axioms.specs.declared.body.Body.{Body}
 use Rattle.owl_ontology.proofs.Adding.{add_entry-new}
 use Rattle.owl_ontology.proofs.Entries.{all_at}
 use Rattle.owl_ontology.specs.Ontology.{Entry, IsHeld, OntologyState, add_entry, axioms_of, entry_of}
-use Rattle.relax_axioms.specs.Relax.{Relaxes, step_entries, step_origin}
+use Rattle.relax_axioms.specs.Laws.{RelaxOfRelaxes}
+use Rattle.relax_axioms.specs.Relax.{Relaxes, relax_of, step_entries, step_origin}
 use Rattle.relax_axioms.specs.Relaxed.{IsMissing, IsSaid, below, plain}
-use Rattle.relax_axioms.specs.inner.Wanted.{is_said, is_wanted, same_body}
-use Rattle.relax_axioms.proofs.Lists.{any_in, both_true, from_any, is_not, not_is, take_at}
-use Rattle.relax_axioms.proofs.Wanted.{found_proper, found_wanted, same_body-true, same_itself, wanted_found}
+use Rattle.relax_axioms.specs.Implied.{all_implied, each_once, is_said, missing_of, same_body}
+use Rattle.relax_axioms.proofs.Lists.{any_in, both_true, filter_alike, from_any, is_not, not_is, take_at}
+use Rattle.relax_axioms.proofs.Once.{any_filter, any_once, inserted_once, once_apart, still_apart}
+use Rattle.relax_axioms.proofs.Wanted.{found_proper, found_wanted, is_wanted, same_body-true, same_itself, wanted_found}
 
 -- a list of different bodies that has what is wanted and not said, and nothing else
 abbrev pub AreMissing : List Axiom → List Body → Type 0
 AreMissing axioms keys = (b : Body) → list_any (same_body b) keys ≡ (is_wanted axioms b && not (is_said axioms b))
 
+pub are_missing : (axioms : List Axiom) → AreMissing axioms (missing_of axioms)
+are_missing axioms b =
+    any_filter (λ c. not (is_said axioms c)) b (each_once (all_implied axioms))
+    ∙ ap (λ t. t && not (is_said axioms b)) (any_once b (all_implied axioms))
+
 in_keys : (keys : List Body) (b : Body) → In b keys → list_any (same_body b) keys ≡ true
 in_keys keys b here = any_in (same_body b) b keys here (same_itself b b refl)
+
+-- what a set of the bodies that are implied is without those that are said
+pub left_missing : (axioms : List Axiom) (keys said : List Body) → keys ≡ insert_all same_body [] (all_implied axioms) → ((b : Body) → list_any (same_body b) said ≡ (list_any (same_body b) keys && is_said axioms b))
+    → filter (λ b. not (list_any (same_body b) said)) keys ≡ missing_of axioms
+left_missing axioms keys said are those =
+    filter_alike (λ b. not (list_any (same_body b) said)) (λ b. not (is_said axioms b)) keys
+    (λ b here. ap not (those b ∙ ap (λ t. t && is_said axioms b) (in_keys keys b here)))
+    ∙ ap (filter (λ b. not (is_said axioms b))) (are ∙ inserted_once (all_implied axioms))
 
 keys_in : (keys : List Body) (b : Body) → list_any (same_body b) keys ≡ true → In b keys
 keys_in keys b h = let found = from_any (same_body b) keys h in subst (λ c. In c keys) (sym (same_body-true b found.0 found.2)) found.1
@@ -122,17 +139,30 @@ unfolding IsDistinct
 distinct_plain [] apart = tt
 distinct_plain (k ∷ keys) apart = (apart_plain k keys apart.0, distinct_plain keys apart.1)
 
+pub relax_of_relaxes : (before : OntologyState) → RelaxOfRelaxes before
+relax_of_relaxes before =
+    let axioms = axioms_of before.entries in
+    let keys = missing_of axioms in
+    record {
+      added = map plain keys;
+      name = refl;
+      entries = refl;
+      exactly = λ a. (missing_key axioms keys (are_missing axioms) a, key_missing axioms keys (are_missing axioms) a);
+      once = distinct_plain keys (still_apart (λ b. not (is_said axioms b)) (each_once (all_implied axioms)) (once_apart (all_implied axioms)));
+      counted = refl;
+    }
+
 length_map : (keys : List Body) → length keys ≡ length (map plain keys)
 length_map [] = refl
 length_map (k ∷ keys) = ap suc (length_map keys)
 
-pub relaxes : (before after : OntologyState) (keys : List Body) (count : ℕ) → AreMissing (axioms_of before.entries) keys → IsDistinct same_body keys → count ≡ length keys
-    → after ≡ record before { entries = before.entries ++ step_entries (map plain keys) } → Relaxes before after count
-relaxes before after keys count are apart counted is = record {
-  added = map plain keys;
-  name = ap (λ o. o.name) is;
-  entries = ap (λ o. o.entries) is;
-  exactly = λ a. (missing_key (axioms_of before.entries) keys are a, key_missing (axioms_of before.entries) keys are a);
-  once = distinct_plain keys apart;
-  counted = counted ∙ length_map keys;
-}
+-- the plain function by the bodies that are missing
+pub relax_by : (before after : OntologyState) (keys : List Body) (count : ℕ) → keys ≡ missing_of (axioms_of before.entries) → count ≡ length keys
+    → after ≡ record before { entries = before.entries ++ step_entries (map plain keys) } → relax_of before ≡ (after, count)
+relax_by before after keys count are counted is =
+    let made : relax_of before ≡ (record before { entries = before.entries ++ step_entries (map plain keys) }, length (map plain keys)) = λ i. (record before { entries = before.entries ++ step_entries (map plain (sym are i)) }, length (map plain (sym are i))) in
+    let number = counted ∙ length_map keys in
+    made ∙ (λ i. (sym is i, sym number i))
+
+pub relaxes : (before after : OntologyState) (count : ℕ) → relax_of before ≡ (after, count) → Relaxes before after count
+relaxes before after count is = subst (λ (made : OntologyState × ℕ). Relaxes before made.0 made.1) is (relax_of_relaxes before)

@@ -1,10 +1,12 @@
 -- What definitions imply, as it is collected, is what is meant.
-use Rattle.std.proofs.Common.{◌≡◌, ℕ, ◌+◌, true, false, ◌&&◌, ◌||◌, if◌then◌else◌, List, [], ◌∷◌, ◌++◌, None, Some, Option, slice_get, take, inl, inr, ◌⊎◌, ⊎_elim, refl, sym, ap, subst, ◌∙◌, true≢false}
-use Rattle.std.specs.List.{list_all}
-use Rattle.std.proofs.Math.Bool.{and-true, or_assoc}
+use Rattle.std.proofs.Common.{◌≡◌, ℕ, true, ◌&&◌, List, None, Some, Option, inl, inr, ◌⊎◌, ⊎_elim, refl, sym, ap, subst, ◌∙◌, true≢false}
+use Rattle.std.specs.List.{list_all, list_any}
+use Rattle.std.specs.Prelude.{Bool, Contains, filter}
+use Rattle.std.proofs.Math.Bool.{and-true}
 use Rattle.owl_axioms.proofs.Layers.{proper_of_and}
+use Rattle.owl_axioms.proofs.Listed.{flat_in, in_flat}
 use Rattle.owl_axioms.proofs.Making.{are_proper_operands-is}
-use Rattle.owl_axioms.proofs.Members.{Contains-in, In, In-contains, passes}
+use Rattle.owl_axioms.proofs.Members.{Contains-in, In, In-contains, In-from_map, In-map, passes}
 use Rattle.owl_axioms.proofs.ProperAxioms.{are_proper_sides-none}
 use Rattle.owl_axioms.proofs.Same.{same_axiom-true}
 use Rattle.owl_axioms.specs.Proper.{AreProper, IsProper, are_proper_sides, in_order, is_proper, is_proper_body, is_proper_expr, is_proper_pair}
@@ -18,8 +20,8 @@ use Rattle.owl_axioms.specs.declared.expr.ClassExpr.TheOpen.{ClassExpr-F}
 use Rattle.owl_axioms.specs.declared.expr.ClassExpr.TheVariants as expr
 use Rattle.owl_axioms.specs.declared.expr.ClassExpr.TheViews.{out-ClassExpr, roll-ClassExpr, roll-out-ClassExpr}
 use Rattle.relax_axioms.specs.Relaxed.{Defines, IsImplied, IsRelaxed, below, plain}
-use Rattle.relax_axioms.specs.inner.Wanted.{among, defined_as, defined_layers, definition_in, implied_by, implied_in, is_class, is_relaxed, is_wanted, relaxed_layer, same_body, wanted_by}
-use Rattle.relax_axioms.proofs.Lists.{any_in, both_true, from_any, or_false, take_at}
+use Rattle.relax_axioms.specs.Implied.{all_implied, defined_as, defined_layers, definition_in, implied_by, implied_in, is_class, is_relaxed, relaxed_layer, same_body, wanted_by}
+use Rattle.relax_axioms.proofs.Lists.{any_in, both_true, from_any, from_filter, in_filter}
 use Rattle.relax_axioms.proofs.Views.{out_and, out_class, out_some}
 
 -- ---- equality of bodies
@@ -29,23 +31,6 @@ same_body-true b c h = ap (λ a. a.body) (same_axiom-true (plain b) (plain c) (a
 
 pub same_itself : (b c : Body) → b ≡ c → same_body b c ≡ true
 same_itself b c is = subst (λ d. same_body b d ≡ true) is (laws.laws-law.refl b)
-
--- ---- one operand more
-
-among_push : (class : List ℕ) (xs : List ClassExpr) (x : ClassExpr) (b : Body) → among (implied_by class (xs ++ x ∷ [])) b ≡ (among (implied_by class xs) b || (is_relaxed x && same_body (below class x) b))
-among_push class [] x b =
-    elim (is_relaxed x) as (λ r. among (if r then below class x ∷ [] else []) b ≡ (r && same_body (below class x) b)) [
-      | true ↦ sym (or_false (same_body (below class x) b))
-      | false ↦ refl
-    ]
-among_push class (y ∷ ys) x b =
-    elim (is_relaxed y) as (λ r. among (if r then below class y ∷ implied_by class (ys ++ x ∷ []) else implied_by class (ys ++ x ∷ [])) b ≡ (among (if r then below class y ∷ implied_by class ys else implied_by class ys) b || (is_relaxed x && same_body (below class x) b))) [
-      | true ↦ ap (λ t. same_body (below class y) b || t) (among_push class ys x b) ∙ sym (or_assoc (same_body (below class y) b) (among (implied_by class ys) b) (is_relaxed x && same_body (below class x) b))
-      | false ↦ among_push class ys x b
-    ]
-
-pub among_next : (class : List ℕ) (xs : List ClassExpr) (i : ℕ) (x : ClassExpr) (b : Body) → slice_get xs i ≡ Some x → among (implied_by class (take (i + 1) xs)) b ≡ (among (implied_by class (take i xs)) b || (is_relaxed x && same_body (below class x) b))
-among_next class xs i x b at = ap (λ ys. among (implied_by class ys) b) (take_at xs i x at) ∙ among_push class (take i xs) x b
 
 -- ---- operands that are taken
 
@@ -128,28 +113,14 @@ record Implied (class : List ℕ) (operands : List ClassExpr) (b : Body) : Type 
   fits : is_relaxed operand ≡ true
   is : below class operand ≡ b
 
-later_implied : (class : List ℕ) (x : ClassExpr) (xs : List ClassExpr) (b : Body) → Implied class xs b → Implied class (x ∷ xs) b
-later_implied class x xs b one = record { operand = one.operand; has = inr one.has; fits = one.fits; is = one.is }
-
 implied_has : (class : List ℕ) (operands : List ClassExpr) (b : Body) → In b (implied_by class operands) → Implied class operands b
-implied_has class [] b here = absurd here
-implied_has class (x ∷ xs) b here =
-    elim (is_relaxed x) as (λ r. is_relaxed x ≡ r → In b (if r then below class x ∷ implied_by class xs else implied_by class xs) → Implied class (x ∷ xs) b) [
-      | true ↦ λ fits there. ⊎_elim
-          (λ is. let one : Implied class (x ∷ xs) b = record { operand = x; has = inl refl; fits = fits; is = is } in one)
-          (λ later. later_implied class x xs b (implied_has class xs b later)) there
-      | false ↦ λ _ there. later_implied class x xs b (implied_has class xs b there)
-    ] refl here
+implied_has class operands b here =
+    let found = In-from_map (below class) b (filter is_relaxed operands) here in
+    let kept = from_filter is_relaxed found.0 operands found.1 in
+    record { operand = found.0; has = kept.0; fits = kept.1; is = found.2 }
 
 has_implied : (class : List ℕ) (operand : ClassExpr) (operands : List ClassExpr) → In operand operands → is_relaxed operand ≡ true → In (below class operand) (implied_by class operands)
-has_implied class operand [] here fits = absurd here
-has_implied class operand (x ∷ xs) (inl is) fits =
-    subst (λ r. In (below class operand) (if r then below class x ∷ implied_by class xs else implied_by class xs)) (sym (ap is_relaxed is ∙ fits)) (inl (ap (below class) is))
-has_implied class operand (x ∷ xs) (inr later) fits =
-    elim (is_relaxed x) as (λ r. In (below class operand) (if r then below class x ∷ implied_by class xs else implied_by class xs)) [
-      | true ↦ inr (has_implied class operand xs later fits)
-      | false ↦ has_implied class operand xs later fits
-    ]
+has_implied class operand operands here fits = In-map (below class) operand (filter is_relaxed operands) (in_filter is_relaxed operand operands here fits)
 
 -- ---- what axioms imply
 
@@ -178,20 +149,26 @@ found_by axioms a b (Some d) here is there =
       is = one.is;
     }
 
+-- some axiom implies it
+abbrev pub is_wanted : List Axiom → Body → Bool
+is_wanted axioms b = list_any (same_body b) (all_implied axioms)
+
 pub wanted_found : (axioms : List Axiom) (b : Body) → is_wanted axioms b ≡ true → Found axioms b
 unfolding wanted_by
 wanted_found axioms b h =
-    let at = from_any (λ a. among (wanted_by a.body) b) axioms h in
-    let k = from_any (λ k. same_body k b) (wanted_by at.0.body) at.2 in
-    found_by axioms at.0 b (definition_in at.0.body) at.1 refl (subst (λ c. In c (wanted_by at.0.body)) (same_body-true k.0 b k.2) k.1)
+    let k = from_any (same_body b) (all_implied axioms) h in
+    let there : Contains (all_implied axioms) b = Contains-in b (all_implied axioms) (subst (λ c. In c (all_implied axioms)) (sym (same_body-true b k.0 k.2)) k.1) in
+    flat_in (λ a. wanted_by a.body) b axioms there
+    (λ a here said. found_by axioms a b (definition_in a.body) (In-contains a axioms here) refl (In-contains b (wanted_by a.body) said))
 
 pub found_wanted : (axioms : List Axiom) (class : List ℕ) (operand : ClassExpr) → IsImplied axioms class operand → is_wanted axioms (below class operand) ≡ true
 unfolding wanted_by
 found_wanted axioms class operand one =
     let b = below class operand in
     let a = one.definition in
-    let there : In b (wanted_by a.body) = subst (λ said. In b (implied_in said)) (sym (is_defined a.body class one.operands one.defines)) (has_implied class operand one.operands (In-contains operand one.operands one.has) (relaxed_is operand one.fits)) in
-    any_in (λ x. among (wanted_by x.body) b) a axioms (In-contains a axioms one.stands) (any_in (λ k. same_body k b) b (wanted_by a.body) there (same_itself b b refl))
+    let said : In b (wanted_by a.body) = subst (λ said. In b (implied_in said)) (sym (is_defined a.body class one.operands one.defines)) (has_implied class operand one.operands (In-contains operand one.operands one.has) (relaxed_is operand one.fits)) in
+    let there : Contains (all_implied axioms) b = in_flat (λ a. wanted_by a.body) a b axioms one.stands (Contains-in b (wanted_by a.body) said) in
+    any_in (same_body b) b (all_implied axioms) (In-contains b (all_implied axioms) there) (same_itself b b refl)
 
 -- ---- what is implied is proper
 

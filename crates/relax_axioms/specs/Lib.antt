@@ -1,4 +1,4 @@
+pub mod Implied
 pub mod Laws
 pub mod Relax
 pub mod Relaxed
-pub mod inner

@@ -3,7 +3,7 @@ ghost use Rattle.std.specs.Prelude.{◌≡◌, ◌++◌, Contains, IfOk, OnErr, 
 ghost use Rattle.owl_axioms.specs.Proper.{IsProper};
 ghost use Rattle.owl_ontology.specs.Ontology.{IsHeld, axioms_of};
 ghost use Rattle.owl_sem.specs.Laws.{KeepBoth};
-ghost use Rattle.relax_axioms.specs.Relax.{Relaxes, step_entries, step_origin};
+ghost use Rattle.relax_axioms.specs.Relax.{Relaxes, relax_of, step_entries, step_origin};
 ghost use Rattle.relax_axioms.specs.Relaxed.{plain};
 
 use crate::unsaid::missing;
@@ -13,9 +13,11 @@ use owl_ontology::{Ontology, Origin};
 use rel_io::{Dup, Items, NoMemory};
 use std::alloc::Global;
 
-/// Adds each inclusion that a definition implies and no axiom says, without annotations, and says how many these are. It
-/// takes time in proportion to the axioms. Where no memory is left, nothing has happened.
+/// Adds each inclusion that a definition implies and no axiom says, without annotations, and says how many these are. They
+/// come in the order of the definitions. It takes time in proportion to the axioms. Where no memory is left, nothing has
+/// happened.
 pub fn relax(alloc: Global, ontology: &mut Ontology) -> Result<u64, NoMemory>
+    ensures exact { IfOk result (λ count. relax_of ontology.old ≡ (ontology.new, count)) }
     ensures relaxed { IfOk result (Relaxes ontology.old ontology.new) }
     ensures keeps { IfOk result (λ count. KeepBoth (axioms_of ontology.old.entries) (axioms_of ontology.new.entries)) }
     ensures unchanged { OnErr result (ontology.new ≡ ontology.old) }
@@ -37,7 +39,8 @@ fn with_all(
     ensures { IfOk result (λ more. more ≡ record ontology.now { entries = ontology.now.entries ++ step_entries (map plain bodies.now.keys) }) }
 {
     let mut more = ontology.copy(alloc)?;
-    for at in 0..bodies.len() {
+    let count = bodies.len();
+    for at in 0..count {
         let body = bodies.get_index(at).unwrap().copy(alloc)?;
         more.add(plain_axiom(alloc, body), step_origin())?;
     }

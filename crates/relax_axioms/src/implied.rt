@@ -1,10 +1,9 @@
 //! What definitions imply.
-ghost use Rattle.std.specs.Prelude.{◌≡◌, ◌&&◌, ◌||◌, IfOk, MatchOption, None, OnOk, Some};
-ghost use Rattle.indexmap.specs.IndexSet.{contains};
+ghost use Rattle.std.specs.Prelude.{◌≡◌, ◌∷◌, [], IfOk, MatchOption, None, OnOk, Some};
+ghost use Rattle.indexmap.specs.IndexSet.{insert_all};
 ghost use Rattle.owl_ontology.specs.Ontology.{axioms_of};
-ghost use Rattle.relax_axioms.specs.Relaxed.{below};
-ghost use Rattle.relax_axioms.specs.inner.Wanted as spec;
-ghost use Rattle.relax_axioms.specs.inner.Wanted.{among, defined_as, definition_in, implied_by, is_wanted, same_body, wanted_by};
+ghost use Rattle.relax_axioms.specs.Implied as spec;
+ghost use Rattle.relax_axioms.specs.Implied.{all_implied, defined_as, definition_in, implied_by, same_body, wanted_by};
 
 use indexmap::IndexSet;
 use owl_axioms::{Body, ClassExpr};
@@ -12,9 +11,9 @@ use owl_ontology::Ontology;
 use rel_io::{Dup, Iri, NoMemory};
 use std::alloc::Global;
 
-/// The inclusions that definitions imply.
+/// The inclusions that definitions imply, in the order of the axioms.
 pub fn wanted(alloc: Global, ontology: &Ontology) -> Result<IndexSet<Body>, NoMemory>
-    ensures { IfOk result (λ bodies. (b : Body) → contains same_body bodies b ≡ is_wanted (axioms_of ontology.now.entries) b) }
+    ensures { IfOk result (λ bodies. bodies.keys ≡ insert_all same_body [] (all_implied (axioms_of ontology.now.entries))) }
 {
     let mut bodies = IndexSet::new(alloc);
     for at in 0..ontology.len() {
@@ -25,7 +24,7 @@ pub fn wanted(alloc: Global, ontology: &Ontology) -> Result<IndexSet<Body>, NoMe
 
 /// Adds what an axiom implies by what it says.
 fn push_wanted(alloc: Global, bodies: &mut IndexSet<Body>, body: &Body) -> Result<(), NoMemory>
-    ensures { OnOk result ((b : Body) → contains same_body bodies.new b ≡ (contains same_body bodies.old b || among (wanted_by body.now) b)) }
+    ensures { OnOk result (bodies.new.keys ≡ insert_all same_body bodies.old.keys (wanted_by body.now)) }
 {
     match definition_in(body) {
         None => Ok(()),
@@ -34,7 +33,7 @@ fn push_wanted(alloc: Global, bodies: &mut IndexSet<Body>, body: &Body) -> Resul
 }
 
 /// The class and the operands of a definition.
-#[tactic(auto, unfolding(crate::specs::inner::Wanted::definition_in))]
+#[tactic(auto, unfolding(crate::specs::Implied::definition_in))]
 fn definition_in(body: &Body) -> Option<(&Iri, &[ClassExpr])>
     ensures { MatchOption result (definition_in body.now ≡ None) (λ found. definition_in body.now ≡ Some (found.0.now, found.1.now)) }
 {
@@ -45,7 +44,7 @@ fn definition_in(body: &Body) -> Option<(&Iri, &[ClassExpr])>
 }
 
 /// The class and the operands, where one is a class and the other an intersection.
-#[tactic(auto, unfolding(crate::specs::inner::Wanted::defined_as), using(crate::proofs::Views::views))]
+#[tactic(auto, unfolding(crate::specs::Implied::defined_as), using(crate::proofs::Views::views))]
 fn defined_as<'a>(one: &'a ClassExpr, other: &'a ClassExpr) -> Option<(&'a Iri, &'a [ClassExpr])>
     ensures { MatchOption result (defined_as one.now other.now ≡ None) (λ found. defined_as one.now other.now ≡ Some (found.0.now, found.1.now)) }
 {
@@ -63,7 +62,7 @@ fn push_operands(
     class: &Iri,
     operands: &[ClassExpr],
 ) -> Result<(), NoMemory>
-    ensures { OnOk result ((b : Body) → contains same_body bodies.new b ≡ (contains same_body bodies.old b || among (implied_by class.now operands.now) b)) }
+    ensures { OnOk result (bodies.new.keys ≡ insert_all same_body bodies.old.keys (implied_by class.now operands.now)) }
 {
     for operand in operands {
         push_operand(alloc, bodies, class, operand)?;
@@ -78,7 +77,7 @@ fn push_operand(
     class: &Iri,
     operand: &ClassExpr,
 ) -> Result<(), NoMemory>
-    ensures { OnOk result ((b : Body) → contains same_body bodies.new b ≡ (contains same_body bodies.old b || (spec.is_relaxed operand.now && same_body (below class.now operand.now) b))) }
+    ensures { OnOk result (bodies.new.keys ≡ insert_all same_body bodies.old.keys (implied_by class.now (operand.now ∷ []))) }
 {
     if !is_relaxed(operand) {
         return Ok(());
@@ -90,7 +89,7 @@ fn push_operand(
 }
 
 /// Whether it is a class, or what has some filler in a class.
-#[tactic(auto, unfolding(crate::specs::inner::Wanted::is_relaxed), using(crate::proofs::Views::views))]
+#[tactic(auto, unfolding(crate::specs::Implied::is_relaxed), using(crate::proofs::Views::views))]
 fn is_relaxed(operand: &ClassExpr) -> bool
     ensures { result ≡ spec.is_relaxed operand.now }
 {
@@ -102,7 +101,7 @@ fn is_relaxed(operand: &ClassExpr) -> bool
 }
 
 /// Whether it is a class with a name.
-#[tactic(auto, unfolding(crate::specs::inner::Wanted::is_class))]
+#[tactic(auto, unfolding(crate::specs::Implied::is_class))]
 fn is_class(part: &ClassExpr) -> bool
     ensures { result ≡ spec.is_class part.now }
 {

@@ -9,4 +9,4 @@ mod laws;
 mod unsaid;
 
 pub use adding::relax;
-pub use laws::{definition_entails, missing_is_entailed, relaxing_keeps};
+pub use laws::{definition_entails, missing_is_entailed, relax_of_relaxes, relaxing_keeps};

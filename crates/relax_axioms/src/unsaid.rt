@@ -1,35 +1,68 @@
 //! What is missing: what definitions imply, without what is said already.
-ghost use Rattle.std.specs.Prelude.{◌≡◌, not, ◌&&◌, Contains, IfOk};
+ghost use Rattle.std.specs.Prelude.{◌≡◌, not, ◌&&◌, ◌||◌, Contains, IfOk, OnOk, filter};
 ghost use Rattle.indexmap.specs.IndexSet.{contains};
 ghost use Rattle.owl_axioms.specs.Proper.{IsProper};
 ghost use Rattle.owl_ontology.specs.Ontology.{IsHeld, axioms_of};
+ghost use Rattle.relax_axioms.specs.Implied.{is_said, missing_of, same_body};
 ghost use Rattle.relax_axioms.specs.Relaxed.{plain};
-ghost use Rattle.relax_axioms.specs.inner.Wanted.{is_said, is_wanted, same_body};
 
 use crate::implied::wanted;
 use indexmap::IndexSet;
 use owl_axioms::{Axiom, Body};
 use owl_ontology::Ontology;
-use rel_io::NoMemory;
+use rel_io::{Dup, NoMemory};
 use std::alloc::Global;
 
 /// The inclusions that definitions imply and that no axiom says.
 pub fn missing(alloc: Global, ontology: &Ontology) -> Result<IndexSet<Body>, NoMemory>
-    ensures exact { IfOk result (λ bodies. (b : Body) → contains same_body bodies b ≡ (is_wanted (axioms_of ontology.now.entries) b && not (is_said (axioms_of ontology.now.entries) b))) }
+    ensures exact { IfOk result (λ bodies. bodies.keys ≡ missing_of (axioms_of ontology.now.entries)) }
     ensures proper { IfOk result (λ bodies. (b : Body) → Contains bodies.keys b → IsProper (plain b)) }
     ensures absent { IfOk result (λ bodies. (b : Body) → Contains bodies.keys b → ¬ (IsHeld (plain b) ontology.now.entries)) }
 {
     let mut bodies = wanted(alloc, ontology)?;
-    for at in 0..ontology.len() {
-        take_out(&mut bodies, ontology.get(at));
-    }
+    let said = said_of(alloc, ontology, &bodies)?;
+    drop_said(&mut bodies, &said);
+    let _proper = ontology.len();
     Ok(bodies)
 }
 
-/// Takes out what an axiom says, with whatever annotations it says it.
-#[tactic(auto, using(crate::proofs::Lists::left_without))]
-fn take_out(bodies: &mut IndexSet<Body>, one: &Axiom)
-    ensures { (b : Body) → contains same_body bodies.new b ≡ (contains same_body bodies.old b && not (same_body one.now.body b)) }
+/// Drops those that are said, and leaves the others in their order.
+fn drop_said(bodies: &mut IndexSet<Body>, said: &IndexSet<Body>)
+    ensures { bodies.new.keys ≡ filter (λ b. not (contains same_body said.now b)) bodies.old.keys }
 {
-    bodies.swap_remove(&one.body);
+    bodies.retain(
+        |body: &Body| -> bool
+            ensures { result ≡ not (contains same_body said.entry.now body.now) }
+        { !said.contains(body) },
+    );
+}
+
+/// Which of these the axioms say.
+fn said_of(
+    alloc: Global,
+    ontology: &Ontology,
+    bodies: &IndexSet<Body>,
+) -> Result<IndexSet<Body>, NoMemory>
+    ensures { IfOk result (λ said. (b : Body) → contains same_body said b ≡ (contains same_body bodies.now b && is_said (axioms_of ontology.now.entries) b)) }
+{
+    let mut said = IndexSet::new(alloc);
+    for at in 0..ontology.len() {
+        push_said(alloc, &mut said, bodies, ontology.get(at))?;
+    }
+    Ok(said)
+}
+
+/// Adds what an axiom says, with whatever annotations it says it, where it is one of these.
+fn push_said(
+    alloc: Global,
+    said: &mut IndexSet<Body>,
+    bodies: &IndexSet<Body>,
+    one: &Axiom,
+) -> Result<(), NoMemory>
+    ensures { OnOk result ((b : Body) → contains same_body said.new b ≡ (contains same_body said.old b || (contains same_body bodies.now b && same_body one.now.body b))) }
+{
+    if bodies.contains(&one.body) {
+        said.insert(one.body.copy(alloc)?)?;
+    }
+    Ok(())
 }

@@ -1,10 +1,15 @@
 use Rattle.relax_axioms.proofs.Entailed.{relaxing_keeps}
-use Rattle.relax_axioms.proofs.Missing.{relaxes}
+use Rattle.relax_axioms.proofs.Missing.{relax_by, relaxes}
 use Rattle.relax_axioms.proofs.adding.relax.Goals as goal
 
+pub returns-clause-exact : goal.returns-clause-exact
+returns-clause-exact c = relax_by c.args.ontology.now c.in_ok-more.more c.in_ok-missing.missing.keys c.len.result c.in_ok-missing.ensures.exact c.len.ensures.len c.in_ok-more.ensures
+
 pub returns-clause-relaxed : goal.returns-clause-relaxed
-returns-clause-relaxed c = relaxes c.args.ontology.now c.in_ok-more.more c.in_ok-missing.missing.keys c.len.result c.in_ok-missing.ensures.exact c.len.ensures.unique c.len.ensures.len c.in_ok-more.ensures
+returns-clause-relaxed c = relaxes c.args.ontology.now c.in_ok-more.more c.len.result
+    (relax_by c.args.ontology.now c.in_ok-more.more c.in_ok-missing.missing.keys c.len.result c.in_ok-missing.ensures.exact c.len.ensures.len c.in_ok-more.ensures)
 
 pub returns-clause-keeps : goal.returns-clause-keeps
 returns-clause-keeps c = relaxing_keeps c.args.ontology.now c.in_ok-more.more c.len.result
-    (relaxes c.args.ontology.now c.in_ok-more.more c.in_ok-missing.missing.keys c.len.result c.in_ok-missing.ensures.exact c.len.ensures.unique c.len.ensures.len c.in_ok-more.ensures)
+    (relaxes c.args.ontology.now c.in_ok-more.more c.len.result
+    (relax_by c.args.ontology.now c.in_ok-more.more c.in_ok-missing.missing.keys c.len.result c.in_ok-missing.ensures.exact c.len.ensures.len c.in_ok-more.ensures))

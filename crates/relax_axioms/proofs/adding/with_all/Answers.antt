@@ -21,7 +21,7 @@ loop-at-preserved c =
     let i = c.loop-at.at in
     let b = c.in_ok-body.body in
     let at : slice_get keys i ≡ Some b = sym c.get_index.ensures.key ∙ ap option_copied c.unwrap.ensures ∙ ap Some (sym c.in_ok-body.ensures) in
-    let next = with_next held keys i b c.len-at-end.ensures.unique at (c.requires.absent b (in_at keys i b at)) in
+    let next = with_next held keys i b c.len-count.ensures.unique at (c.requires.absent b (in_at keys i b at)) in
     let made : OntologyState = record { name = c.args.ontology.now.name; entries = add_entry (plain b) step_origin (held ++ step_entries (map plain (take i keys))) } in
     let here : c.add.new.self ≡ made = c.in_ok-add.ensures.entries ∙ (λ j. record { name = (c.loop-at.invariant j).name; entries = add_entry (c.plain_axiom.ensures j) (c.step_origin.ensures j) (c.loop-at.invariant j).entries }) in
     here ∙ (λ j. record { name = c.args.ontology.now.name; entries = next j })

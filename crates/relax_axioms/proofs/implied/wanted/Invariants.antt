@@ -1,9 +1,8 @@
-use Rattle.std.proofs.Common.{◌≡◌, take}
-use Rattle.indexmap.specs.IndexSet.{contains}
-use Rattle.owl_axioms.specs.declared.body.Body.{Body}
+use Rattle.std.proofs.Common.{◌≡◌, [], take}
+use Rattle.indexmap.specs.IndexSet.{insert_all}
 use Rattle.owl_ontology.specs.Ontology.{axioms_of}
-use Rattle.relax_axioms.specs.inner.Wanted.{is_wanted, same_body}
+use Rattle.relax_axioms.specs.Implied.{all_implied, same_body}
 use Rattle.relax_axioms.proofs.implied.wanted.Given as goal
 
 abbrev pub invariant-loop-at : goal.invariant-loop-at
-invariant-loop-at l = (b : Body) → contains same_body l.bodies b ≡ is_wanted (take l.at (axioms_of l.ontology.entries)) b
+invariant-loop-at l = l.bodies.keys ≡ insert_all same_body [] (all_implied (take l.at (axioms_of l.ontology.entries)))

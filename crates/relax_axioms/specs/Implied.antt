@@ -1,5 +1,6 @@
--- What definitions imply, as the code collects it. (Own.)
-use Rattle.std.specs.Prelude.{ℕ, Bool, true, false, if◌then◌else◌, List, [], ◌∷◌, Option, None, Some}
+-- What definitions imply and no axiom says, as a plain function: in the order of the axioms and, in one axiom, of its
+-- operands, each once. (Own.)
+use Rattle.std.specs.Prelude.{ℕ, Bool, true, false, not, List, [], ◌∷◌, Option, None, Some, filter, flat_map, map}
 use Rattle.std.specs.List.{list_any}
 use Rattle.owl_axioms.specs.contracts.body.BodyPartialEq.TheImpl as body_eq
 use Rattle.owl_axioms.specs.declared.body.Axiom.{Axiom}
@@ -45,25 +46,30 @@ definition_in other = None
 
 -- the inclusions that operands of a class imply
 abbrev pub implied_by : List ℕ → List ClassExpr → List Body
-implied_by class [] = []
-implied_by class (operand ∷ operands) = if is_relaxed operand then below class operand ∷ implied_by class operands else implied_by class operands
+implied_by class operands = map (below class) (filter is_relaxed operands)
 
--- that what an axiom says implies
+-- that a definition implies, where there is one
 abbrev pub implied_in : Option (List ℕ × List ClassExpr) → List Body
 implied_in None = []
 implied_in (Some definition) = implied_by definition.0 definition.1
 
+-- that what an axiom says implies
 unfoldable pub wanted_by : Body → List Body
 wanted_by said = implied_in (definition_in said)
 
--- one of these says the same
-abbrev pub among : List Body → Body → Bool
-among bodies b = list_any (λ k. same_body k b) bodies
+-- that axioms imply
+abbrev pub all_implied : List Axiom → List Body
+all_implied axioms = flat_map (λ a. wanted_by a.body) axioms
 
--- some axiom implies it
-abbrev pub is_wanted : List Axiom → Body → Bool
-is_wanted axioms b = list_any (λ a. among (wanted_by a.body) b) axioms
+-- each once, in the place where it comes first
+abbrev pub each_once : List Body → List Body
+each_once [] = []
+each_once (b ∷ bodies) = b ∷ filter (λ c. not (same_body b c)) (each_once bodies)
 
--- some axiom says it
+-- some axiom says it, with annotations or without
 abbrev pub is_said : List Axiom → Body → Bool
 is_said axioms b = list_any (λ a. same_body a.body b) axioms
+
+-- what axioms imply and none of them says
+abbrev pub missing_of : List Axiom → List Body
+missing_of axioms = filter (λ b. not (is_said axioms b)) (each_once (all_implied axioms))
