@@ -1,3 +1,4 @@
+pub mod Extracting
 pub mod Flagged
 pub mod Reducing
 pub mod Relaxing

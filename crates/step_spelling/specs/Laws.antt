@@ -1,12 +1,22 @@
 -- What can be written as a document stays so with each step: after relaxing, after reducing, and as what a module is shipped
 -- with. (Own.)
 use Rattle.std.specs.Prelude.{◌≡◌, ℕ, Bool, List, length}
+-- What is read of a document can be written as one, and stays so with each step: after relaxing, after reducing, as what
+-- a module is shipped with, and so after an extract. (Own.)
+use Rattle.std.specs.Prelude.{◌≡◌, ℕ, Bool, List, Option, length, map}
+use Rattle.text_sets.specs.Sets.{SameMembers}
+use Rattle.chain_words.specs.declared.command.Method.{Method}
+use Rattle.obo_frames.specs.Framed.{unlined}
+use Rattle.obo_frames.specs.Soundness.{IsSound}
+use Rattle.obo_frames.specs.declared.placed.Placed.{Placed}
 use Rattle.owl_axioms.specs.Names.{Scope}
 use Rattle.owl_ontology.specs.Ontology.{OntologyState, axioms_of, flagged}
+use Rattle.extract_step.specs.Extract.{extracted}
 use Rattle.obo_mapping.specs.Back.{IsSpellable}
 use Rattle.relax_axioms.specs.Relax.{Relaxes}
 use Rattle.reduce_edges.specs.Reduce.{Reduces}
 use Rattle.module_extract.specs.Shipped.{shipped_flags}
+use Rattle.seed_list.specs.declared.seed.Seed.{Seed}
 
 -- the ontology can be written as a document
 abbrev pub CanBeWritten : OntologyState → Type 0
@@ -25,3 +35,7 @@ pub record Ships (before after : OntologyState) (seed : Scope) (kept : List Bool
 
 abbrev pub ShippingKeepsSpelling : Type 0
 ShippingKeepsSpelling = (before after : OntologyState) (seed : Scope) (kept : List Bool) → Ships before after seed kept → CanBeWritten before → CanBeWritten after
+
+-- what an extract leaves, by any method and for any seed
+abbrev pub ExtractingKeepsSpelling : Type 0
+ExtractingKeepsSpelling = (before : OntologyState) (method : Method) (seed : Seed) → CanBeWritten before → CanBeWritten (extracted method seed before)

@@ -1,5 +1,10 @@
 //! What can be written stays so. Each law is the contract of a function that does nothing.
 ghost use Rattle.step_spelling.specs.Laws.{ReducingKeepsSpelling, RelaxingKeepsSpelling, ShippingKeepsSpelling};
+ghost use Rattle.step_spelling.specs.Laws.{ExtractingKeepsSpelling, ReadCanBeWritten, ReducingKeepsSpelling, RelaxingKeepsSpelling, ShippingKeepsSpelling};
+/// Under the name of a document, the axioms that it says can be written.
+pub fn read_can_be_written()
+    ensures { ReadCanBeWritten }
+{}
 
 /// An ontology that can be written can be written after relaxing.
 pub fn relaxing_keeps_spelling()
@@ -14,4 +19,9 @@ pub fn reducing_keeps_spelling()
 /// What is shipped with a part of an ontology that can be written can be written.
 pub fn shipping_keeps_spelling()
     ensures { ShippingKeepsSpelling }
+{}
+
+/// An ontology that can be written can be written after an extract, by any method and for any seed.
+pub fn extracting_keeps_spelling()
+    ensures { ExtractingKeepsSpelling }
 {}
