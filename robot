@@ -1,5 +1,6 @@
 #!/usr/bin/env bash
-# robot WORDS..  runs the program with these words, in the folder where it is called.
+# robot WORDS..  runs the program with these words, in the folder where it is called. Alone, --help prints what it
+# does, and --version which one it is; both prove and build nothing.
 # Before the first run, and before the first one after a change of the checkout or of the toolchain, it proves and
 # builds the program. Beside the program's own statuses it ends with 126 where the program was not proved or not built,
 # and with 127 where it has to be built and the toolchain's command rt is not on this machine.
@@ -7,6 +8,47 @@ set -u -o pipefail
 top=$(dirname "$(readlink -f "$0")")
 program=$top/crates/robot_cli/out/robot_cli
 mark=$top/crates/robot_cli/out/built_from
+version="0.1 (not released)"
+
+help() {
+  cat <<'END'
+robot: a release pipeline for ontologies in the OBO Flat File Format 1.4
+
+  robot merge --input A [STEP..] convert --output B
+
+It reads OBO files and all that they import, merges them, takes the steps in their order, and writes OBO or OWL 2
+Functional-Style Syntax. What was done goes to standard output, and what was wrong to standard error. It is not the
+ROBOT of the OBO Foundry.
+
+  merge      --input FILE, once or more; --catalog FILE, two columns: what is imported and the file for it
+  extract    --method BOT, TOP or STAR; --term-file FILE, an id or IRI a line: keeps the module of these terms
+  relax      adds the inclusions that definitions imply
+  reduce     --preserve-annotated-axioms true or false (false): drops the inclusions that others make redundant
+  convert    --output FILE; --format obo or ofn; --check true or false (true): false writes a frame with two names
+  reason, generate N   are not supported yet
+
+merge stands first. Each step may have --output FILE, and writes the axioms as they are behind it. A name that ends in
+.obo or .ofn tells the format. No output may be an input, or stand twice.
+
+Status  0  done
+        1  a file or a step is refused, or a file is missing
+        2  wrong arguments
+        3  a read or a write failed
+        4  out of memory
+  126, 127  the program could not be proved or built; the toolchain's command rt is not on this machine
+
+  robot --help       this page
+  robot --version    the version, and the toolchain
+
+The pages: README.md, and docs/FORMATS.md for what is read and written, docs/CLAIMS.md for what is proved, in
+END
+  printf '%s\n' "$top"
+}
+
+version() {
+  printf 'robot %s\n' "$version"
+  rt version 2>/dev/null || echo "the toolchain's command rt is not on this machine"
+}
 
 # What stands in the checkout: the code, the definitions and the proofs of all crates.
 sources() {
@@ -42,6 +84,13 @@ build() {
   rm -f "$log"
   printf '%s\n' "$now" >"$mark"
 }
+
+if [ $# -eq 1 ]; then
+  case $1 in
+    --help) help; exit 0 ;;
+    --version) version; exit 0 ;;
+  esac
+fi
 
 if ! sum=$(sources); then
   echo "robot: the checkout could not be read" >&2

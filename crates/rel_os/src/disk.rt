@@ -1,14 +1,18 @@
 //! The folder in which the program was called: files by their paths.
 ghost use Rattle.std.specs.Prelude.{◌≡◌, None, [], false};
+ghost use Rattle.std.specs.Io.{ReadsAtMost};
 
 use rel_io::{Folder, Got, Opened, PutFault};
-use std::io::{ErrorKind, Read};
+use std::io::{self, ErrorKind, Read};
 use std::marker::Model;
 use std::rt::Files;
 use std::{fs, str};
 
-/// The real folder. A name is a path, taken from the folder in which the program was called; a name that is
-/// no text is that of no file. It does not tell what it holds.
+/// How often a read that signals interrupt is tried before it is a fault.
+const TRIES: u32 = 65_536;
+
+/// The real folder. A name is a path, taken from the folder in which the program was called; a name that is not UTF-8, or
+/// that has a NUL byte, is that of no file. It does not tell what it holds.
 #[derive(Drop)]
 pub struct DiskFolder<'a, R: Files> {
     rt: &'a R,
@@ -82,7 +86,7 @@ impl<R: Files> Folder for DiskFolder<'_, R> {
 
     fn read(&mut self, into: &mut [u8]) -> Got {
         let file = self.file.as_mut().unwrap();
-        match file.read(into) {
+        match read_some(file, into) {
             Ok(0) => Got::AtEnd,
             Ok(count) => Got::Bytes(count),
             Err(_) => {
@@ -103,10 +107,30 @@ impl<R: Files> Folder for DiskFolder<'_, R> {
     }
 }
 
-/// Opens a file for reading.
+/// Opens a file for reading. No file has a name that is not UTF-8, or that has a NUL byte.
 fn open_path<R: Files>(rt: &R, name: &[u8]) -> Result<R::File, ErrorKind> {
+    if name.contains(&0) {
+        return Err(ErrorKind::NotFound);
+    }
     let path = str::from_utf8(name).map_err(|_| ErrorKind::NotFound)?;
     fs::open(rt, path).map_err(|error| error.kind())
+}
+
+/// Reads once, and again where a signal interrupted the read, up to a number of tries.
+fn read_some<R: Read>(file: &mut R, into: &mut [u8]) -> io::Result<usize>
+    ensures { ReadsAtMost result into.new }
+{
+    for _ in 0..TRIES {
+        match file.read(into) {
+            Ok(count) => return Ok(count),
+            Err(error) => {
+                if error.kind() != ErrorKind::Interrupted {
+                    return Err(error);
+                }
+            }
+        }
+    }
+    Err(io::Error::from(ErrorKind::Interrupted))
 }
 
 /// Writes a file whole, and says whether that went well.

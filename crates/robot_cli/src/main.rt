@@ -2,8 +2,12 @@
 //! sinks, calls `release`, and ends with its status.
 #![tactic(auto)]
 
-ghost use Rattle.std.specs.Prelude.{◌≢◌};
+ghost use Rattle.std.specs.Prelude.{◌≢◌, map};
+ghost use Rattle.std.specs.String.{string_bytes};
+ghost use Rattle.release_chain.specs.Release.{outside};
+ghost use Rattle.robot_cli.specs.Process.{EndsWith};
 
+use rel_io::{Folder, Sink};
 use rel_os::{DiskFolder, StdSink};
 use release_chain::release;
 use std::alloc::Global;
@@ -23,11 +27,24 @@ fn main(rt: HostRuntime) -> ExitCode {
             let mut folder = DiskFolder::new(&rt);
             let mut out = StdSink::output(&rt);
             let mut err = StdSink::error(&rt);
-            let ended = release(rt.alloc(), &words, &mut folder, &mut out, &mut err);
-            ExitCode::from(ended.status)
+            ExitCode::from(run(rt.alloc(), &words, &mut folder, &mut out, &mut err))
         }
         Err(error) => ExitCode::from(status_without_words(error)),
     }
+}
+
+/// Does what the words ask for, and gives the status with which the process ends.
+fn run<F: Folder, O: Sink, E: Sink>(
+    alloc: Global,
+    words: &Vec<String>,
+    folder: &mut F,
+    out: &mut O,
+    err: &mut E,
+) -> u8
+    ensures { EndsWith (map string_bytes words.now.items) (outside (F.state folder.old) (O.state out.old) (E.state err.old)) result (outside (F.state folder.new) (O.state out.new) (E.state err.new)) }
+{
+    let ended = release(alloc, words, folder, out, err);
+    ended.status
 }
 
 /// The words behind the program's name.
@@ -36,7 +53,7 @@ fn words<R: Env + AllocGlobal>(rt: &R) -> io::Result<Vec<String>> {
     Ok(words)
 }
 
-/// How the program ends where it has no words: some word is no text, or memory ran out.
+/// How the program ends where it has no words: some word is not UTF-8, or memory ran out.
 fn status_without_words(error: io::Error) -> u8
     ensures { result ≢ 0 }
 {

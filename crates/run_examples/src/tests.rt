@@ -1,7 +1,12 @@
-//! One module for each crate whose answers are compared, and two for whole runs.
+//! The ground, the words, the axioms and the texts of a run, each compared by itself; and whole runs, in memory and over real
+//! files.
 mod ground;
 mod ontologies;
 mod real_files;
+mod refused;
 mod reports;
+mod rows;
 mod runs;
+mod steps;
+mod values;
 mod words;

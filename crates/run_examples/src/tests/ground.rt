@@ -45,7 +45,6 @@ fn small_values_are_copied(alloc: Global) -> Result<bool, NoMemory> {
             && is_copied(alloc, &Method::Top)?
             && is_copied(alloc, &Format::Ofn)?
             && is_copied(alloc, &chain_words::WordKind::NoValue)?
-            && is_copied(alloc, &release_chain::WordKind::NoFormat)?
             && is_copied(alloc, &Kind::Class)?
             && is_copied(alloc, &origin)?,
     )

@@ -69,6 +69,7 @@ fn a_real_file_is_read_in_pieces(rt: HostRuntime) -> Result<(), Fail> {
     let mut buffer = [0u8; 4];
     let is_right = folder.open_file(b"missing") == Opened::Missing
         && folder.open_file(b"\xff") == Opened::Missing
+        && folder.open_file(b"pieces\0") == Opened::Missing
         && folder.open_file(b"pieces") == Opened::Ready
         && folder.read(&mut buffer) == Got::Bytes(4)
         && folder.read(&mut buffer) == Got::Bytes(1)

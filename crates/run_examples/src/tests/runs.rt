@@ -1,274 +1,83 @@
-//! Whole runs over a folder and sinks in memory, with endings worked out by hand from the rules.
-ghost use Rattle.std.specs.Prelude.{◌≤◌};
-
-use crate::folder_of;
-use document_examples::{bytes_of, is_copied, push, wrong_in};
-use rel_io::{Bytes, Dup, MemFolder, MemSink, NoMemory};
-use release_chain::{Ended, Fault, read_file, release};
-use std::alloc::Global;
+//! Whole runs over a folder and sinks in memory, as `rows` plays them, with endings worked out by hand from the rules: files
+//! that are read, merged and written, and calls that fail.
+use super::rows::ending_of;
+use document_examples::wrong_in;
 use std::test::Fail;
 
-/// The words of the one chain.
-const CHAIN: &str = "merge --input a.obo convert --output b.obo";
-
-/// The file `a.obo`, and how the run of the chain ends: with status 0 and the file `b.obo`, or with another status and a
-/// fault.
-const RUNS: &str = " => 0 format-version: 1.4|
-|| => 0 format-version: 1.4|
-format-version: 1.2|ontology: go-basic_2| => 0 format-version: 1.4|ontology: go-basic_2|
-ontology: ex||format-version: 9 : ~|format-version:  => 0 format-version: 1.4|ontology: ex|
-ontology: ex||[Term]|id: EX:0000002|name: wheel|is_a: EX:0000001|is_a: EX:0000001||[Term]|id: EX:0000001|name: part| => 0 format-version: 1.4|ontology: ex||[Term]|id: EX:0000001|name: part||[Term]|id: EX:0000002|name: wheel|is_a: EX:0000001 ! part|
-format-version: 1.4|ontology: ex||[Term]|id: EX:0000001|name: part||[Term]|id: EX:0000002|name: wheel|is_a: EX:0000001 ! part| => 0 format-version: 1.4|ontology: ex||[Term]|id: EX:0000001|name: part||[Term]|id: EX:0000002|name: wheel|is_a: EX:0000001 ! part|
-[Term]|id: EX:1 => 0 format-version: 1.4||[Term]|id: EX:1|
-[Term]|id: b:10|[Term]|id: b:9|[Term]|id: B_x:1| => 0 format-version: 1.4||[Term]|id: B_x:1||[Term]|id: b:10||[Term]|id: b:9|
-[Term]|id: A:1|is_a: Z:1 ! z : ~|is_a: A:2 ! ||is_a: A:1|name: _ -a 1|[Term]|id: A:2| => 0 format-version: 1.4||[Term]|id: A:1|name: _ -a 1|is_a: A:1 ! _ -a 1|is_a: A:2|is_a: Z:1||[Term]|id: A:2|
-[Term]|id: EX:1|def: \"x\" []| => 1 LineNotBuilt a.obo 3
-ontology: ex||ontology: ex| => 1 LineNotBuilt a.obo 3
-ontology: ex\r| => 1 LineNotBuilt a.obo 1
-||  => 1 LineNotBuilt a.obo 3
-format-version: 1.2|format-version:1.2| => 1 LineNotBuilt a.obo 2
-format-version: \t| => 1 LineNotBuilt a.obo 1
-\u{feff}ontology: ex| => 1 LineNotBuilt a.obo 1
-|format-version: \0 => 1 LineNotBuilt a.obo 2
-[Term]||id: EX:1| => 1 LineNotBuilt a.obo 1
-[Term]|id: EX:1|[Term]|id: EX:2||[Term]|id: EX:1| => 1 LineNotBuilt a.obo 6
-[Term] |id: EX:1| => 1 LineNotBuilt a.obo 1
-[Typedef]|id: EX:1| => 1 LineNotBuilt a.obo 1
-[Term]|id: EX:| => 1 LineNotBuilt a.obo 1
-[Term]|id: EX:1a| => 1 LineNotBuilt a.obo 1
-[Term]|id: 1X:1| => 1 LineNotBuilt a.obo 1
-[Term]|id: E-X:1| => 1 LineNotBuilt a.obo 1
-[Term]|id: EX:1 | => 1 LineNotBuilt a.obo 1
-[Term]|id: part_of| => 1 LineNotBuilt a.obo 1
-id: EX:1| => 1 LineNotBuilt a.obo 1
-[Term]|id: EX:1|id: EX:2| => 1 LineNotBuilt a.obo 3
-name: x| => 1 LineNotBuilt a.obo 1
-[Term]|id: EX:1|name: x|name: x| => 1 LineNotBuilt a.obo 4
-[Term]|id: EX:1|name: x|is_a: EX:2|name: y| => 1 LineNotBuilt a.obo 5
-[Term]|id: EX:1|name: x | => 1 LineNotBuilt a.obo 3
-[Term]|id: EX:1|name:  x| => 1 LineNotBuilt a.obo 3
-[Term]|id: EX:1|name: | => 1 LineNotBuilt a.obo 3
-[Term]|id: EX:1|name: x, y| => 1 LineNotBuilt a.obo 3
-[Term]|id: EX:1|name: caf\u{e9}| => 1 LineNotBuilt a.obo 3
-is_a: EX:1| => 1 LineNotBuilt a.obo 1
-[Term]|id: EX:1|is_a: x| => 1 LineNotBuilt a.obo 3
-[Term]|id: EX:1|is_a: EX:2 | => 1 LineNotBuilt a.obo 3
-[Term]|id: EX:1|is_a: EX:2 !| => 1 LineNotBuilt a.obo 3
-[Term]|id: EX:1|is_a: EX:2! x| => 1 LineNotBuilt a.obo 3
-[Term]|id: EX:1|is_a: EX:2 ! \u{e9}| => 1 LineNotBuilt a.obo 3
-[Term]|id: EX:1|ontology: ex| => 1 LineNotBuilt a.obo 3
-[Term]|id: EX:1|format-version: 1.2| => 1 LineNotBuilt a.obo 3
-ontology: ex||[Term]|id: EX:1|name: x||is_a part| => 1 Syntax a.obo 7 NoColon
-ontology: ex||[Term]|name|id: EX:1||is_a part| => 1 Syntax a.obo 4 NoColon
-ontology: ex||[Term]|id: EX:1|name: x||is_a EX:0000001| => 1 Syntax a.obo 7 BadTag
-||@FF@| => 1 NotUtf8 a.obo 3
-is_a x|@FF@| => 1 Syntax a.obo 1 NoColon
-ontology:  => 1 Syntax a.obo 1 NoValue
-ontology: a b|name: x| => 1 Syntax a.obo 1 Trailing
-[Term] => 1 NoId a.obo 1
-|[Term]|name: x|id: EX:1| => 1 NoId a.obo 2
-[Term]|[Term]|id: EX:1| => 1 NoId a.obo 1
-[Term]|id: EX:1|intersection_of: EX:2| => 1 ShortGroup a.obo 3
-[Term]|id: EX:1|def: \"x\"|is_obsolete: yes| => 1 Syntax a.obo 4 BadBool
-[Term]|name: x|[Typdef]| => 1 Syntax a.obo 3 BadFrame
-|format-version: @1048560*x@ => 0 format-version: 1.4|
-|format-version: @1048561*x@ => 1 LineTooLong a.obo 2";
+/// One file that is written in its canonical form, or refused by its line.
+const FILES: &str =
+    r#"- 9 - -; merge --input a.obo convert --output r.obo; a.obo= => 0; read a.obo: 0 frames, 0 clauses not translated|merge: 0 logical, 0 declarations, 0 notes|write r.obo: 20 bytes|; ; r.obo=format-version: 1.4|
+- 65536 - -; merge --input a.obo convert --output r.obo; a.obo=format-version: 1.2@0D@|data-version: releases/2024-01-17@0D@|default-namespace: bike@0D@|subsetdef: slim "Short list"@0D@|synonymtypedef: trade "Trade name" EXACT@0D@|ontology: bike@0D@|remark: kept by hand@0D@|@0D@|[Term]@0D@|id: BIKE:0000002@0D@|name: wheel ! a comment@0D@|def: "A round part, with a hub." [BIKE:kc, ISBN:123 "book"]@0D@|synonym: "rim set" BROAD trade [BIKE:kc]@0D@|synonym: "roller"@0D@|subset: slim@0D@|xref: WD:Q446 "wheel"@0D@|is_a: BIKE:0000001 {source="BIKE:kc", checked=yes} ! part@0D@|@0D@|[Term]@0D@|id: BIKE:0000001@0D@|name: part@0D@|namespace: base@0D@| => 0; read a.obo: 2 frames, 0 clauses not translated|merge: 1 logical, 2 declarations, 14 notes|write r.obo: 514 bytes|; ; r.obo=format-version: 1.4|data-version: releases/2024-01-17|subsetdef: slim "Short list"|synonymtypedef: trade "Trade name" EXACT|default-namespace: bike|remark: kept by hand|ontology: bike||[Term]|id: BIKE:0000001|name: part|namespace: base||[Term]|id: BIKE:0000002|name: wheel|namespace: bike|def: "A round part, with a hub." [BIKE:kc, ISBN:123 "book"]|subset: slim|synonym: "rim set" BROAD trade [BIKE:kc]|synonym: "roller" RELATED []|xref: WD:Q446 "wheel"|is_a: BIKE:0000001 {checked="yes", source="BIKE:kc"} ! part|
+- 9 - -; merge --input a.obo convert --output r.obo; a.obo=remark: kept by hand|ontology: bike|synonymtypedef: trade "Trade name" EXACT|subsetdef: slim "Short list"|default-namespace: bike|data-version: releases/2024-01-17|format-version: 1.2||[Term]|id: BIKE:0000001|name: part|namespace: base||[Term]|id: BIKE:0000002|name: wheel ! a comment|name: wheel ! a comment|def: "A round part, with a hub." [BIKE:kc, ISBN:123 "book"]|subset: slim|xref: WD:Q446 "wheel"|is_a: BIKE:0000001 {source="BIKE:kc", checked=yes} ! part||[Term]|id: BIKE:0000002|synonym: "rim set" BROAD trade [BIKE:kc]|synonym: "roller"| => 0; read a.obo: 2 frames, 0 clauses not translated|merge: 1 logical, 2 declarations, 14 notes|write r.obo: 514 bytes|; ; r.obo=format-version: 1.4|data-version: releases/2024-01-17|subsetdef: slim "Short list"|synonymtypedef: trade "Trade name" EXACT|default-namespace: bike|remark: kept by hand|ontology: bike||[Term]|id: BIKE:0000001|name: part|namespace: base||[Term]|id: BIKE:0000002|name: wheel|namespace: bike|def: "A round part, with a hub." [BIKE:kc, ISBN:123 "book"]|subset: slim|synonym: "rim set" BROAD trade [BIKE:kc]|synonym: "roller" RELATED []|xref: WD:Q446 "wheel"|is_a: BIKE:0000001 {checked="yes", source="BIKE:kc"} ! part|
+- 9 - -; merge --input a.obo convert --output r.obo; a.obo=format-version: 1.4|data-version: releases/2024-01-17|subsetdef: slim "Short list"|synonymtypedef: trade "Trade name" EXACT|default-namespace: bike|remark: kept by hand|ontology: bike||[Term]|id: BIKE:0000001|name: part|namespace: base||[Term]|id: BIKE:0000002|name: wheel|namespace: bike|def: "A round part, with a hub." [BIKE:kc, ISBN:123 "book"]|subset: slim|synonym: "rim set" BROAD trade [BIKE:kc]|synonym: "roller" RELATED []|xref: WD:Q446 "wheel"|is_a: BIKE:0000001 {checked="yes", source="BIKE:kc"} ! part| => 0; read a.obo: 2 frames, 0 clauses not translated|merge: 1 logical, 2 declarations, 14 notes|write r.obo: 514 bytes|; ; r.obo=format-version: 1.4|data-version: releases/2024-01-17|subsetdef: slim "Short list"|synonymtypedef: trade "Trade name" EXACT|default-namespace: bike|remark: kept by hand|ontology: bike||[Term]|id: BIKE:0000001|name: part|namespace: base||[Term]|id: BIKE:0000002|name: wheel|namespace: bike|def: "A round part, with a hub." [BIKE:kc, ISBN:123 "book"]|subset: slim|synonym: "rim set" BROAD trade [BIKE:kc]|synonym: "roller" RELATED []|xref: WD:Q446 "wheel"|is_a: BIKE:0000001 {checked="yes", source="BIKE:kc"} ! part|
+- 1 - -; merge --input a.obo convert --output r.obo; a.obo=@EF@@BB@@BF@ontology: ex||[Typedef]|id: r; r.obo=old => 0; read a.obo: 1 frames, 0 clauses not translated|merge: 0 logical, 1 declarations, 0 notes|write r.obo: 50 bytes|; ; r.obo=format-version: 1.4|ontology: ex||[Typedef]|id: r|; r.obo changed
+- 9 - -; merge --input a.obo convert --format ofn --output r.obo; a.obo=ontology: ex|remark: x|[Term]|id: EX:1|is_a: EX:2 {source="x"}| => 0; read a.obo: 1 frames, 0 clauses not translated|merge: 1 logical, 1 declarations, 1 notes|write r.obo: 337 bytes|; ; r.obo=Ontology(<http://purl.obolibrary.org/obo/ex.owl>|Annotation(<http://www.geneontology.org/formats/oboInOwl#remark> "x")|Declaration(Class(<http://purl.obolibrary.org/obo/EX_1>))|SubClassOf(Annotation(<http://www.geneontology.org/formats/oboInOwl#source> "x") <http://purl.obolibrary.org/obo/EX_1> <http://purl.obolibrary.org/obo/EX_2>)|)|
+- 9 - -; merge --input a.obo convert --output r.obo; a.obo=ontology: ex||[Term]|id: EX:0000001|relationship: part_of EX:0000002 {cardinality="2"}|foo: x| => 0; read a.obo: 1 frames, 2 clauses not translated|a.obo:5: relationship not translated|a.obo:6: foo not translated|merge: 0 logical, 1 declarations, 0 notes|write r.obo: 56 bytes|; ; r.obo=format-version: 1.4|ontology: ex||[Term]|id: EX:0000001|
+- 9 - -; merge --input a.obo; a.obo=[Term]|id: EX:1| => 0; read a.obo: 1 frames, 0 clauses not translated|merge: 0 logical, 1 declarations, 0 notes|; 
+- 9 - -; merge --input a.obo convert --output r.obo; a.obo=ontology: ex||[Term]|id: EX:0000001|name: x||is_a part| => 1; ; robot: a.obo:7: syntax: no colon|; r.obo missing
+- 9 - -; merge --input a.obo convert --output r.obo; a.obo=ontology: ex||[Term]|name|id: EX:0000001||is_a part| => 1; ; robot: a.obo:4: syntax: no colon|; r.obo missing
+- 9 - -; merge --input a.obo convert --output r.obo; a.obo=ontology: ex||[Term]|id: EX:0000001|name: x||is_a EX:0000001| => 1; ; robot: a.obo:7: syntax: bad tag|; r.obo missing
+- 9 - -; merge --input a.obo convert --output r.obo; a.obo=|[Term]|@FF@|name: x| => 1; ; robot: a.obo:3: not UTF-8|; r.obo missing
+- 9 - -; merge --input a.obo convert --output r.obo; a.obo=|[Term]|name: x| => 1; ; robot: a.obo:2: no id|; r.obo missing
+- 9 - -; merge --input a.obo convert --output r.obo; a.obo=[Term]|id: EX:1|intersection_of: EX:2| => 1; ; robot: a.obo:3: short group|; r.obo missing
+- 65536 - -; merge --input a.obo convert --output r.obo; a.obo=|name: @1048571*x@| => 1; ; robot: a.obo:2: line too long|; r.obo missing"#;
 
 #[test]
-fn files_are_written_or_refused(rt: HostRuntime) -> Result<(), Fail> {
-    let wrong = wrong_in(rt.alloc(), RUNS, ending_of_file)?;
+fn a_file_is_written_or_refused(rt: HostRuntime) -> Result<(), Fail> {
+    let wrong = wrong_in(rt.alloc(), FILES, ending_of)?;
     assert_eq!(rt; wrong.as_str(), "");
     Ok(())
 }
 
-/// How the chain over a file ends, where reads are given three bytes and no call fails.
-fn ending_of_file(alloc: Global, file: &str) -> Result<Vec<u8>, NoMemory> {
-    ending_of(alloc, CHAIN, file, 3, &[])
+/// Several inputs, what they import, and a catalog.
+const IMPORTS: &str =
+    r#"- 9 - -; merge --input a.obo convert --output r.obo; a.obo=ontology: a|import: b.obo|[Term]|id: EX:1|; b.obo=ontology: b|import: a.obo|[Term]|id: EX:2| => 0; read a.obo: 1 frames, 0 clauses not translated|read b.obo: 1 frames, 0 clauses not translated|merge: 0 logical, 2 declarations, 0 notes|write r.obo: 66 bytes|; ; r.obo=format-version: 1.4|ontology: a||[Term]|id: EX:1||[Term]|id: EX:2|
+- 9 - -; merge --input a.obo convert --output b.obo; a.obo=ontology: a|import: b.obo|[Term]|id: EX:1|; b.obo=[Term]|id: EX:2| => 0; read a.obo: 1 frames, 0 clauses not translated|read b.obo: 1 frames, 0 clauses not translated|merge: 0 logical, 2 declarations, 0 notes|write b.obo: 66 bytes|; ; b.obo=format-version: 1.4|ontology: a||[Term]|id: EX:1||[Term]|id: EX:2|; b.obo changed
+- 9 - -; merge --input b.obo --input a.obo --input b.obo convert --output r.obo; a.obo=ontology: b|[Term]|id: EX:1|; b.obo=ontology: a|[Term]|id: EX:2| => 0; read b.obo: 1 frames, 0 clauses not translated|read a.obo: 1 frames, 0 clauses not translated|merge: 0 logical, 2 declarations, 0 notes|write r.obo: 66 bytes|; ; r.obo=format-version: 1.4|ontology: a||[Term]|id: EX:1||[Term]|id: EX:2|
+- 9 - -; merge --input a.obo convert --output r.obo; a.obo=ontology: ex|import: ro.obo| => 1; ; robot: a.obo:2: missing import ro.obo|; r.obo missing
+- 9 - -; merge --input a.obo convert --output r.obo; b.obo= => 1; ; robot: a.obo: missing|; r.obo missing
+- 9 - -; merge --input a.obo --catalog cat convert --output r.obo; a.obo=ontology: ex|import: http://x.org/ro.owl|; cat=http://x.org/ro.owl@09@ro.obo|; ro.obo=[Typedef]|id: RO:7| => 0; read a.obo: 0 frames, 0 clauses not translated|read ro.obo: 1 frames, 0 clauses not translated|merge: 0 logical, 1 declarations, 0 notes|write r.obo: 53 bytes|; ; r.obo=format-version: 1.4|ontology: ex||[Typedef]|id: RO:7|
+- 9 - -; merge --input a.obo convert --output r.obo; a.obo=ontology: ex|import: http://x.org/ro.owl|; cat=http://x.org/ro.owl@09@ro.obo|; ro.owl=[Typedef]|id: RO:7| => 0; read a.obo: 0 frames, 0 clauses not translated|read ro.owl: 1 frames, 0 clauses not translated|merge: 0 logical, 1 declarations, 0 notes|write r.obo: 53 bytes|; ; r.obo=format-version: 1.4|ontology: ex||[Typedef]|id: RO:7|
+- 9 - -; merge --input d/edit.obo convert --output r.obo; d/edit.obo=ontology: ex|import: http://x.org/ro.owl|; d/ro.owl=[Typedef]|id: RO:7| => 0; read d/edit.obo: 0 frames, 0 clauses not translated|read d/ro.owl: 1 frames, 0 clauses not translated|merge: 0 logical, 1 declarations, 0 notes|write r.obo: 53 bytes|; ; r.obo=format-version: 1.4|ontology: ex||[Typedef]|id: RO:7|
+- 9 - -; merge --catalog cat --input a.obo convert --output r.obo; cat=x| => 1; ; robot: cat:1: catalog line|; r.obo missing
+- 9 - -; merge --catalog cat --input a.obo convert --output r.obo; a.obo= => 1; ; robot: cat: missing|; r.obo missing"#;
+
+#[test]
+fn files_are_merged_with_what_they_import(rt: HostRuntime) -> Result<(), Fail> {
+    let wrong = wrong_in(rt.alloc(), IMPORTS, ending_of)?;
+    assert_eq!(rt; wrong.as_str(), "");
+    Ok(())
 }
 
-/// How many bytes a read is given, the call that fails, from 0, and the file `a.obo`; and how the run of the chain ends.
-/// With three bytes and a file of twelve, the open is call 0, the reads are 1 to 5, and the put is 6.
-const FAILING: &str = "3 0 ontology: ex => 3 ReadFault a.obo
-3 1 ontology: ex => 3 ReadFault a.obo
-3 3 ontology: ex => 3 ReadFault a.obo
-3 5 ontology: ex => 3 ReadFault a.obo
-3 6 ontology: ex => 3 WriteFault b.obo
-3 7 ontology: ex => 0 format-version: 1.4|ontology: ex|
-3 6 foo: bar baz => 1 LineNotBuilt a.obo 1
-3 6 no colon abc => 1 Syntax a.obo 1 NoColon
-3 5 [Term]|name: => 3 ReadFault a.obo
-3 6 [Term]|name: => 1 NoId a.obo 1
-100000 4 format-version: @65521*x@ => 3 WriteFault b.obo";
+/// Calls that fail. In pieces of 65,536 bytes a file takes the open, a read, and one that meets the end; in pieces of three a
+/// file of twelve takes five reads.
+const FAILING: &str =
+    r#"4 65536 - -; merge --input edit.obo --output a.obo convert --output b.obo; edit.obo=ontology: ex||[Term]|id: EX:0000001|name: G||[Term]|id: EX:0000002|name: W|intersection_of: EX:0000001|intersection_of: part_of EX:0000005||[Term]|id: EX:0000003|name: X|is_a: EX:0000001|relationship: part_of EX:0000004||[Term]|id: EX:0000004|name: Y|relationship: part_of EX:0000005||[Term]|id: EX:0000005|name: Z||[Typedef]|id: part_of|is_transitive: true| => 3; ; robot: b.obo: write fault|; a.obo=format-version: 1.4|ontology: ex||[Term]|id: EX:0000001|name: G||[Term]|id: EX:0000002|name: W|intersection_of: EX:0000001 ! G|intersection_of: part_of EX:0000005 ! Z||[Term]|id: EX:0000003|name: X|is_a: EX:0000001 ! G|relationship: part_of EX:0000004 ! Y||[Term]|id: EX:0000004|name: Y|relationship: part_of EX:0000005 ! Z||[Term]|id: EX:0000005|name: Z||[Typedef]|id: part_of|is_transitive: true|; b.obo missing
+3 65536 - -; merge --input edit.obo --output a.obo convert --output b.obo; edit.obo=ontology: ex||[Term]|id: EX:0000001|name: G||[Term]|id: EX:0000002|name: W|intersection_of: EX:0000001|intersection_of: part_of EX:0000005||[Term]|id: EX:0000003|name: X|is_a: EX:0000001|relationship: part_of EX:0000004||[Term]|id: EX:0000004|name: Y|relationship: part_of EX:0000005||[Term]|id: EX:0000005|name: Z||[Typedef]|id: part_of|is_transitive: true| => 3; ; robot: a.obo: write fault|; a.obo missing; b.obo missing
+3 16 - -; merge --input edit.obo --output a.obo convert --output b.obo; edit.obo=ontology: ex||[Term]|id: EX:0000001|name: G||[Term]|id: EX:0000002|name: W|intersection_of: EX:0000001|intersection_of: part_of EX:0000005||[Term]|id: EX:0000003|name: X|is_a: EX:0000001|relationship: part_of EX:0000004||[Term]|id: EX:0000004|name: Y|relationship: part_of EX:0000005||[Term]|id: EX:0000005|name: Z||[Typedef]|id: part_of|is_transitive: true| => 3; ; robot: edit.obo: read fault|; a.obo missing; b.obo missing
+3 16 - 0; merge --input edit.obo --output a.obo convert --output b.obo; edit.obo=ontology: ex||[Term]|id: EX:0000001|name: G||[Term]|id: EX:0000002|name: W|intersection_of: EX:0000001|intersection_of: part_of EX:0000005||[Term]|id: EX:0000003|name: X|is_a: EX:0000001|relationship: part_of EX:0000004||[Term]|id: EX:0000004|name: Y|relationship: part_of EX:0000005||[Term]|id: EX:0000005|name: Z||[Typedef]|id: part_of|is_transitive: true| => 3; ; ; a.obo missing; b.obo missing
+- 65536 0 -; merge --input edit.obo --output a.obo convert --output b.obo; edit.obo=ontology: ex||[Term]|id: EX:0000001|name: G||[Term]|id: EX:0000002|name: W|intersection_of: EX:0000001|intersection_of: part_of EX:0000005||[Term]|id: EX:0000003|name: X|is_a: EX:0000001|relationship: part_of EX:0000004||[Term]|id: EX:0000004|name: Y|relationship: part_of EX:0000005||[Term]|id: EX:0000005|name: Z||[Typedef]|id: part_of|is_transitive: true| => 3; ; robot: report: write fault|; a.obo=format-version: 1.4|ontology: ex||[Term]|id: EX:0000001|name: G||[Term]|id: EX:0000002|name: W|intersection_of: EX:0000001 ! G|intersection_of: part_of EX:0000005 ! Z||[Term]|id: EX:0000003|name: X|is_a: EX:0000001 ! G|relationship: part_of EX:0000004 ! Y||[Term]|id: EX:0000004|name: Y|relationship: part_of EX:0000005 ! Z||[Term]|id: EX:0000005|name: Z||[Typedef]|id: part_of|is_transitive: true|; b.obo=format-version: 1.4|ontology: ex||[Term]|id: EX:0000001|name: G||[Term]|id: EX:0000002|name: W|intersection_of: EX:0000001 ! G|intersection_of: part_of EX:0000005 ! Z||[Term]|id: EX:0000003|name: X|is_a: EX:0000001 ! G|relationship: part_of EX:0000004 ! Y||[Term]|id: EX:0000004|name: Y|relationship: part_of EX:0000005 ! Z||[Term]|id: EX:0000005|name: Z||[Typedef]|id: part_of|is_transitive: true|
+- 65536 0 0; merge --input edit.obo --output a.obo convert --output b.obo; edit.obo=ontology: ex||[Term]|id: EX:0000001|name: G||[Term]|id: EX:0000002|name: W|intersection_of: EX:0000001|intersection_of: part_of EX:0000005||[Term]|id: EX:0000003|name: X|is_a: EX:0000001|relationship: part_of EX:0000004||[Term]|id: EX:0000004|name: Y|relationship: part_of EX:0000005||[Term]|id: EX:0000005|name: Z||[Typedef]|id: part_of|is_transitive: true| => 3; ; ; a.obo=format-version: 1.4|ontology: ex||[Term]|id: EX:0000001|name: G||[Term]|id: EX:0000002|name: W|intersection_of: EX:0000001 ! G|intersection_of: part_of EX:0000005 ! Z||[Term]|id: EX:0000003|name: X|is_a: EX:0000001 ! G|relationship: part_of EX:0000004 ! Y||[Term]|id: EX:0000004|name: Y|relationship: part_of EX:0000005 ! Z||[Term]|id: EX:0000005|name: Z||[Typedef]|id: part_of|is_transitive: true|; b.obo=format-version: 1.4|ontology: ex||[Term]|id: EX:0000001|name: G||[Term]|id: EX:0000002|name: W|intersection_of: EX:0000001 ! G|intersection_of: part_of EX:0000005 ! Z||[Term]|id: EX:0000003|name: X|is_a: EX:0000001 ! G|relationship: part_of EX:0000004 ! Y||[Term]|id: EX:0000004|name: Y|relationship: part_of EX:0000005 ! Z||[Term]|id: EX:0000005|name: Z||[Typedef]|id: part_of|is_transitive: true|
+- 65536 1 0; merge --input edit.obo --output a.obo convert --output b.obo; edit.obo=ontology: ex||[Term]|id: EX:0000001|name: G||[Term]|id: EX:0000002|name: W|intersection_of: EX:0000001|intersection_of: part_of EX:0000005||[Term]|id: EX:0000003|name: X|is_a: EX:0000001|relationship: part_of EX:0000004||[Term]|id: EX:0000004|name: Y|relationship: part_of EX:0000005||[Term]|id: EX:0000005|name: Z||[Typedef]|id: part_of|is_transitive: true| => 0; read edit.obo: 6 frames, 0 clauses not translated|merge: 5 logical, 6 declarations, 5 notes|write a.obo: 398 bytes|write b.obo: 398 bytes|; ; a.obo=format-version: 1.4|ontology: ex||[Term]|id: EX:0000001|name: G||[Term]|id: EX:0000002|name: W|intersection_of: EX:0000001 ! G|intersection_of: part_of EX:0000005 ! Z||[Term]|id: EX:0000003|name: X|is_a: EX:0000001 ! G|relationship: part_of EX:0000004 ! Y||[Term]|id: EX:0000004|name: Y|relationship: part_of EX:0000005 ! Z||[Term]|id: EX:0000005|name: Z||[Typedef]|id: part_of|is_transitive: true|; b.obo=format-version: 1.4|ontology: ex||[Term]|id: EX:0000001|name: G||[Term]|id: EX:0000002|name: W|intersection_of: EX:0000001 ! G|intersection_of: part_of EX:0000005 ! Z||[Term]|id: EX:0000003|name: X|is_a: EX:0000001 ! G|relationship: part_of EX:0000004 ! Y||[Term]|id: EX:0000004|name: Y|relationship: part_of EX:0000005 ! Z||[Term]|id: EX:0000005|name: Z||[Typedef]|id: part_of|is_transitive: true|
+0 3 - -; merge --input a.obo convert --output r.obo; a.obo=ontology: ex => 3; ; robot: a.obo: read fault|; r.obo missing
+1 3 - -; merge --input a.obo convert --output r.obo; a.obo=ontology: ex => 3; ; robot: a.obo: read fault|; r.obo missing
+5 3 - -; merge --input a.obo convert --output r.obo; a.obo=ontology: ex => 3; ; robot: a.obo: read fault|; r.obo missing
+6 3 - -; merge --input a.obo convert --output r.obo; a.obo=ontology: ex => 3; ; robot: r.obo: write fault|; r.obo missing
+4,5,6 3 - -; merge --input a.obo convert --output r.obo; a.obo=ontology: ex => 3; ; robot: a.obo: read fault|; r.obo missing
+7,8 3 - -; merge --input a.obo convert --output r.obo; a.obo=ontology: ex => 0; read a.obo: 0 frames, 0 clauses not translated|merge: 0 logical, 0 declarations, 0 notes|write r.obo: 33 bytes|; ; r.obo=format-version: 1.4|ontology: ex|
+5 3 - -; merge --input a.obo convert --output r.obo; a.obo=no colon xyz => 3; ; robot: a.obo: read fault|; r.obo missing
+6 3 - -; merge --input a.obo convert --output r.obo; a.obo=no colon xyz => 1; ; robot: a.obo:1: syntax: no colon|; r.obo missing
+6 3 - 0; merge --input a.obo convert --output r.obo; a.obo=no colon xyz => 1; ; ; r.obo missing
+0 3 - -; merge --input a.obo --catalog c convert --output r.obo; a.obo=ontology: ex; c= => 3; ; robot: c: read fault|; r.obo missing
+3 99 - -; merge --input a.obo extract --method TOP --term-file t convert --output r.ofn; a.obo=ontology: ex; t=EX:1 => 3; ; robot: t: read fault|; r.ofn missing
+4 99 - -; merge --input a.obo extract --method TOP --term-file t convert --output r.ofn; a.obo=ontology: ex; t=EX:1 => 3; ; robot: t: read fault|; r.ofn missing
+5 99 - -; merge --input a.obo extract --method TOP --term-file t convert --output r.ofn; a.obo=ontology: ex; t=EX:1 => 3; ; robot: t: read fault|; r.ofn missing
+6 99 - -; merge --input a.obo extract --method TOP --term-file t convert --output r.ofn; a.obo=ontology: ex; t=EX:1 => 3; ; robot: r.ofn: write fault|; r.ofn missing
+7 99 - -; merge --input a.obo extract --method TOP --term-file t convert --output r.ofn; a.obo=ontology: ex; t=EX:1 => 0; read a.obo: 0 frames, 0 clauses not translated|merge: 0 logical, 0 declarations, 0 notes|extract TOP: 0 logical, 0 declarations, 0 notes, 1 unknown terms, 1 rounds|write r.ofn: 51 bytes|; ; r.ofn=Ontology(<http://purl.obolibrary.org/obo/ex.owl>|)|"#;
 
 #[test]
 fn what_failed_outside_is_named(rt: HostRuntime) -> Result<(), Fail> {
-    let wrong = wrong_in(rt.alloc(), FAILING, ending_of_failing)?;
+    let wrong = wrong_in(rt.alloc(), FAILING, ending_of)?;
     assert_eq!(rt; wrong.as_str(), "");
     Ok(())
-}
-
-/// How the chain over a file ends, where one call fails.
-fn ending_of_failing(alloc: Global, input: &str) -> Result<Vec<u8>, NoMemory> {
-    let (piece, rest) = input.split_once(' ').unwrap_or((input, ""));
-    let (call, file) = rest.split_once(' ').unwrap_or((rest, ""));
-    let piece = piece.parse::<usize>().unwrap_or(1);
-    let call = call.parse::<u64>().unwrap_or(0);
-    ending_of(alloc, CHAIN, file, piece.max(1), &[call])
-}
-
-/// Words, and how their run over an empty file `a.obo` ends, where the second call fails. Two blanks have an empty word
-/// between them.
-const WORDS: &str = " => 2 BadWord 0 NoValue
-Merge => 2 BadWord 0 UnknownWord
-merge => 2 BadWord 1 NoValue
-merge a.obo => 2 BadWord 1 UnknownWord
-merge --input => 2 BadWord 2 NoValue
-merge --input  => 2 BadWord 2 BadValue
-merge --input convert => 2 BadWord 3 NoValue
-merge --input a.obo reason => 2 BadWord 3 UnknownWord
-merge --input a.obo convert -o => 2 BadWord 4 UnknownWord
-merge --input a.obo convert --output => 2 BadWord 5 NoValue
-merge --input a.obo convert --output  => 2 BadWord 5 BadValue
-merge --input a.obo convert --output b.OBO => 2 BadWord 5 NoFormat
-merge --input a.obo convert --output a.obo => 2 BadWord 5 OutputIsInput
-merge --input a.obo convert --output b.obo  => 2 BadWord 6 UnknownWord
-merge --input A.obo convert --output b.obo => 1 MissingInput A.obo
-merge --input a.obo convert --output b.obo => 3 ReadFault a.obo";
-
-#[test]
-fn the_first_bad_word_is_refused(rt: HostRuntime) -> Result<(), Fail> {
-    let wrong = wrong_in(rt.alloc(), WORDS, ending_of_words)?;
-    assert_eq!(rt; wrong.as_str(), "");
-    Ok(())
-}
-
-/// How a run of these words ends.
-fn ending_of_words(alloc: Global, words: &str) -> Result<Vec<u8>, NoMemory> {
-    ending_of(alloc, words, "", 3, &[1])
-}
-
-/// How the words over a file end, where reads are given so many bytes and these calls fail.
-fn ending_of(
-    alloc: Global,
-    words: &str,
-    file: &str,
-    piece: usize,
-    failing: &[u64],
-) -> Result<Vec<u8>, NoMemory>
-    requires { 1 ≤ piece }
-{
-    let file = Bytes::from_vec(bytes_of(alloc, file)?);
-    let mut folder = folder_of(alloc, file.copy(alloc)?, piece, failing)?;
-    let ended = run(alloc, words, &mut folder)?;
-    let is_sound = is_sound(alloc, &ended, &folder, &file)?;
-    let shown = if is_sound {
-        shown(alloc, &ended, &folder)
-    } else {
-        Ok(Vec::new(alloc))
-    };
-    drop(ended);
-    shown
-}
-
-/// A run of these words in a folder.
-fn run(alloc: Global, text: &str, folder: &mut MemFolder) -> Result<Ended, NoMemory> {
-    let mut words = Vec::new(alloc);
-    if !text.is_empty() {
-        for word in text.split(' ') {
-            words.push(String::from_str(alloc, word)?)?;
-        }
-    }
-    let mut out = MemSink::new(alloc, 100, Vec::new(alloc))?;
-    let mut err = MemSink::new(alloc, 100, Vec::new(alloc))?;
-    Ok(release(alloc, &words, folder, &mut out, &mut err))
-}
-
-/// Whether a fault wrote nothing, the input is as it was, and a copy of the ending is equal to it.
-fn is_sound(
-    alloc: Global,
-    ended: &Ended,
-    folder: &MemFolder,
-    file: &Bytes,
-) -> Result<bool, NoMemory> {
-    let is_written = folder.held(b"b.obo").is_some();
-    let is_kept = folder.held(b"a.obo") == Some(file.as_slice());
-    Ok(is_copied(alloc, ended)? && is_kept && is_written == ended.fault.is_none())
-}
-
-/// The status of an ending, and what was written, or the fault: its name, its file, its number and its kind.
-fn shown(alloc: Global, ended: &Ended, folder: &MemFolder) -> Result<Vec<u8>, NoMemory> {
-    let mut text = format!(in alloc; "{}", ended.status)?.into_bytes();
-    match &ended.fault {
-        None => push_word(&mut text, folder.held(b"b.obo").unwrap_or(b""))?,
-        Some(fault) => push_fault(alloc, &mut text, fault)?,
-    }
-    Ok(text)
-}
-
-/// Appends a word behind a blank.
-fn push_word(text: &mut Vec<u8>, word: &[u8]) -> Result<(), NoMemory> {
-    push(text, b" ")?;
-    push(text, word)
-}
-
-fn push_fault(alloc: Global, text: &mut Vec<u8>, fault: &Fault) -> Result<(), NoMemory> {
-    let (name, file, number) = parts_of(fault);
-    push_word(text, name)?;
-    if let Some(file) = file {
-        push_word(text, file.as_slice())?;
-    }
-    if let Some(number) = number {
-        push_word(text, format!(in alloc; "{number}")?.as_bytes())?;
-    }
-    match fault {
-        Fault::BadWord { kind, .. } => push_word(text, format!(in alloc; "{kind:?}")?.as_bytes()),
-        Fault::Syntax { kind, .. } => push_word(text, format!(in alloc; "{kind:?}")?.as_bytes()),
-        _ => Ok(()),
-    }
-}
-
-/// The name of a fault, its file, and its number.
-fn parts_of(fault: &Fault) -> (&'static [u8], Option<&Bytes>, Option<u64>) {
-    match fault {
-        Fault::BadWord { index, .. } => (b"BadWord", None, Some(u64::from(*index))),
-        Fault::MissingInput { name } => (b"MissingInput", Some(name), None),
-        Fault::TooManyBytes { name, limit } => (b"TooManyBytes", Some(name), Some(*limit)),
-        Fault::NotUtf8 { file, line } => (b"NotUtf8", Some(file), Some(u64::from(*line))),
-        Fault::LineTooLong { file, line } => (b"LineTooLong", Some(file), Some(u64::from(*line))),
-        Fault::Syntax { file, line, .. } => (b"Syntax", Some(file), Some(u64::from(*line))),
-        Fault::NoId { file, line } => (b"NoId", Some(file), Some(u64::from(*line))),
-        Fault::ShortGroup { file, line } => (b"ShortGroup", Some(file), Some(u64::from(*line))),
-        Fault::LineNotBuilt { file, line } => (b"LineNotBuilt", Some(file), Some(u64::from(*line))),
-        Fault::ReadFault { name } => (b"ReadFault", Some(name), None),
-        Fault::WriteFault { name } => (b"WriteFault", Some(name), None),
-        Fault::NoMemory => (b"NoMemory", None, None),
-    }
-}
-
-/// The call that fails, from 0, and the file `a.obo`; and what reading it up to a limit of five bytes gives, three bytes at
-/// a time. The open is call 0; of more bytes than five the second piece goes past the limit, so call 3 is not made.
-const LIMITED: &str = "\
-4 12345 => 12345
-3 12345 => ReadFault
-3 123456 => TooManyBytes
-3 1234567 => TooManyBytes
-0 1 => ReadFault";
-
-#[test]
-fn a_file_is_read_up_to_its_limit(rt: HostRuntime) -> Result<(), Fail> {
-    let wrong = wrong_in(rt.alloc(), LIMITED, read_limited)?;
-    assert_eq!(rt; wrong.as_str(), "");
-    Ok(())
-}
-
-/// What reading a file up to five bytes gives, where one call fails.
-fn read_limited(alloc: Global, input: &str) -> Result<Vec<u8>, NoMemory> {
-    let (call, file) = input.split_once(' ').unwrap_or((input, ""));
-    let file = Bytes::from_vec(bytes_of(alloc, file)?);
-    let name = Bytes::from_slice(alloc, b"a.obo")?;
-    let mut folder = folder_of(alloc, file, 3, &[call.parse::<u64>().unwrap_or(0)])?;
-    match read_file(alloc, &mut folder, &name, 5) {
-        Ok(bytes) => Ok(bytes.into_vec()),
-        Err(fault) => Ok(format!(in alloc; "{fault:?}")?.into_bytes()),
-    }
 }

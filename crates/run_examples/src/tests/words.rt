@@ -104,7 +104,7 @@ merge --input a reduce --preserve-annotated-axioms true reduce --output .obo => 
 merge --input a convert --check false --format ofn --output x.obo convert --output A.OBO --format obo => inputs a, Convert, x.obo Ofn false, Convert, A.OBO Obo true";
 
 /// The words of an example.
-fn words_of(alloc: Global, text: &str) -> Result<Vec<String>, AllocError> {
+pub fn words_of(alloc: Global, text: &str) -> Result<Vec<String>, AllocError> {
     let mut words = Vec::new(alloc);
     if text.is_empty() {
         return Ok(words);
