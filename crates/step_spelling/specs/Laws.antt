@@ -1,14 +1,7 @@
--- What can be written as a document stays so with each step: after relaxing, after reducing, and as what a module is shipped
--- with. (Own.)
+-- What can be written as a document stays so with each step: after relaxing, after reducing, as what a module is shipped
+-- with, and so after an extract. (Own.)
 use Rattle.std.specs.Prelude.{◌≡◌, ℕ, Bool, List, length}
--- What is read of a document can be written as one, and stays so with each step: after relaxing, after reducing, as what
--- a module is shipped with, and so after an extract. (Own.)
-use Rattle.std.specs.Prelude.{◌≡◌, ℕ, Bool, List, Option, length, map}
-use Rattle.text_sets.specs.Sets.{SameMembers}
 use Rattle.chain_words.specs.declared.command.Method.{Method}
-use Rattle.obo_frames.specs.Framed.{unlined}
-use Rattle.obo_frames.specs.Soundness.{IsSound}
-use Rattle.obo_frames.specs.declared.placed.Placed.{Placed}
 use Rattle.owl_axioms.specs.Names.{Scope}
 use Rattle.owl_ontology.specs.Ontology.{OntologyState, axioms_of, flagged}
 use Rattle.extract_step.specs.Extract.{extracted}

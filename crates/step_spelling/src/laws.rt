@@ -1,10 +1,10 @@
 //! What can be written stays so. Each law is the contract of a function that does nothing.
-ghost use Rattle.step_spelling.specs.Laws.{ReducingKeepsSpelling, RelaxingKeepsSpelling, ShippingKeepsSpelling};
-ghost use Rattle.step_spelling.specs.Laws.{ExtractingKeepsSpelling, ReadCanBeWritten, ReducingKeepsSpelling, RelaxingKeepsSpelling, ShippingKeepsSpelling};
-/// Under the name of a document, the axioms that it says can be written.
-pub fn read_can_be_written()
-    ensures { ReadCanBeWritten }
-{}
+ghost use Rattle.step_spelling.specs.Laws.{
+  ExtractingKeepsSpelling,
+  ReducingKeepsSpelling,
+  RelaxingKeepsSpelling,
+  ShippingKeepsSpelling,
+};
 
 /// An ontology that can be written can be written after relaxing.
 pub fn relaxing_keeps_spelling()

@@ -4,7 +4,7 @@
 
 mod laws;
 
-pub use laws::{reducing_keeps_spelling, relaxing_keeps_spelling, shipping_keeps_spelling};
 pub use laws::{
-    extracting_keeps_spelling, read_can_be_written, reducing_keeps_spelling,
-    relaxing_keeps_spelling, shipping_keeps_spelling,
+    extracting_keeps_spelling, reducing_keeps_spelling, relaxing_keeps_spelling,
+    shipping_keeps_spelling,
+};

@@ -1,10 +1,6 @@
-use Rattle.std.proofs.Common.{◌≡◌, ℕ, zero, false, sym, subst, arith}
-use Rattle.std.proofs.lemmas.Bool.Decides.{nat_tests}
+use Rattle.std.proofs.Common.{sym, subst}
 use Rattle.owl_ontology.specs.Ontology.{axioms_of}
 use Rattle.obo_mapping.specs.Back.{IsSpellable}
-use Rattle.import_merge.specs.inner.Joining.{Joins, KeepsSpelling, with_moved}
-use Rattle.std.proofs.Common.{sym, subst}
-use Rattle.import_merge.specs.inner.Joining.{Joins}
 use Rattle.import_merge.specs.inner.Joining.{Joins, KeepsSpelling}
 use Rattle.import_merge.proofs.MoveLemmas.{IsOf, joins_as_first, joins_later}
 use Rattle.import_merge.proofs.SpellingLemmas.{moving_keeps_spelling, said_spellable}
