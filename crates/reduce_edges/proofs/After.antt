@@ -14,11 +14,11 @@ use Rattle.owl_ontology.specs.Ontology.{Entry, OntologyState, axioms_of, first_f
 use Rattle.owl_sem.proofs.Keeps.{taking_entailed_keeps}
 use Rattle.owl_sem.specs.Laws.{KeepBoth}
 use Rattle.owl_sem.specs.Models.{Satisfies}
-use Rattle.reduce_edges.specs.Edges.{IsEdge, Reach, edge, go, stay}
+use Rattle.reduce_edges.specs.Edges.{IsEdge, Pair, Reach, edge, edge_in, edges_of, go, stay}
 use Rattle.reduce_edges.specs.Laws.{AreEntailedBy, ReachIsSame}
 use Rattle.reduce_edges.specs.Reduce.{Reduces}
 use Rattle.reduce_edges.specs.Redundant.{Goes, IsRedundant}
-use Rattle.reduce_edges.specs.inner.Numbered.{AreApart, Pair, StandFor, edge_in, edges_of}
+use Rattle.reduce_edges.specs.inner.Numbered.{AreApart, StandFor}
 use Rattle.reduce_edges.specs.inner.Staying.{flags_left, has_some, stays_by, stays_of}
 use Rattle.reduce_edges.proofs.Entailed.{reach_entails}
 use Rattle.reduce_edges.proofs.Numbers.{edge_at, edge_said, from_edges, in_edges, pair_at, said_edge, some_same, stands_within}

@@ -3,7 +3,7 @@ use Rattle.std.proofs.Common.{◌≡◌, ℕ, ◌≤◌, zero, suc, Bool, true, 
 use Rattle.owl_axioms.proofs.Members.{In}
 use Rattle.owl_axioms.specs.declared.body.Axiom.{Axiom}
 use Rattle.owl_ontology.specs.Ontology.{Entry, first_flag, flagged}
-use Rattle.reduce_edges.specs.inner.Numbered.{Pair, edge_in, edge_list, edges_of}
+use Rattle.reduce_edges.specs.Edges.{Pair, edge_in, edge_list, edges_of}
 use Rattle.reduce_edges.specs.inner.Staying.{flags_behind, flags_left, stays_by, stays_of}
 use Rattle.reduce_edges.proofs.Numbers.{none_some, some_same}
 

@@ -1,5 +1,6 @@
 mod After
 mod Entailed
 mod Flags
+mod Going
 mod Numbers
 mod Walks

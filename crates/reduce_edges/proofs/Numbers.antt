@@ -18,8 +18,8 @@ use Rattle.owl_axioms.specs.declared.body.Body.TheVariants as body
 use Rattle.owl_axioms.specs.declared.expr.ClassExpr.{ClassExpr}
 use Rattle.owl_axioms.specs.declared.expr.ClassExpr.TheVariants as expr
 use Rattle.owl_ontology.proofs.Entries.{all_at}
-use Rattle.reduce_edges.specs.Edges.{edge}
-use Rattle.reduce_edges.specs.inner.Numbered.{AreApart, AreMore, Pair, StandFor, both_some, class_name, edge_in, edge_list, edges_of, named, pair_of}
+use Rattle.reduce_edges.specs.Edges.{Pair, class_name, edge, edge_in, edge_list, edges_of, pair_of}
+use Rattle.reduce_edges.specs.inner.Numbered.{AreApart, AreMore, StandFor, both_some, named}
 
 -- ---- parts of what is the same
 

@@ -1,4 +1,5 @@
 pub mod Edges
+pub mod Going
 pub mod Laws
 pub mod Reduce
 pub mod Redundant

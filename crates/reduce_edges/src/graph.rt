@@ -3,7 +3,8 @@ ghost use Rattle.std.specs.Prelude.{◌≡◌, List, ◌++◌, ◌∷◌, [], If
 ghost use Rattle.edge_detours.specs.Reach.{AreWithin};
 ghost use Rattle.edge_detours.specs.Redundant.{AreRedundant};
 ghost use Rattle.owl_ontology.specs.Ontology.{axioms_of};
-ghost use Rattle.reduce_edges.specs.inner.Numbered.{AreApart, AreMore, Pair, StandFor, edge_in, edge_list, edges_of};
+ghost use Rattle.reduce_edges.specs.Edges.{Pair, edge_in, edge_list, edges_of};
+ghost use Rattle.reduce_edges.specs.inner.Numbered.{AreApart, AreMore, StandFor};
 
 use edge_detours::redundant_edges;
 use indexmap::IndexSet;
@@ -68,7 +69,7 @@ fn number_of(alloc: Global, names: &mut IndexSet<Iri>, name: &Iri) -> Result<u32
 }
 
 /// The two classes of which an axiom says that the first is a subclass of the second.
-#[tactic(auto, unfolding(crate::specs::inner::Numbered::class_name, crate::specs::inner::Numbered::edge_in))]
+#[tactic(auto, unfolding(crate::specs::Edges::class_name, crate::specs::Edges::edge_in))]
 pub fn edge_in(body: &Body) -> Option<(&Iri, &Iri)>
     ensures { MatchOption result (edge_in body.now ≡ None) (λ found. edge_in body.now ≡ Some (found.0.now, found.1.now)) }
 {

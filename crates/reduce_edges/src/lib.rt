@@ -8,5 +8,5 @@ mod laws;
 mod reducing;
 mod staying;
 
-pub use laws::reach_entails;
+pub use laws::{goes_is_goes, reach_entails, reaches_is_reach, reduce_of_reduces};
 pub use reducing::reduce;

@@ -1,7 +1,7 @@
 //! Which axioms stay.
 ghost use Rattle.std.specs.Prelude.{◌≡◌, IfOk};
 ghost use Rattle.owl_ontology.specs.Ontology.{axioms_of};
-ghost use Rattle.reduce_edges.specs.inner.Numbered.{edge_in};
+ghost use Rattle.reduce_edges.specs.Edges.{edge_in};
 ghost use Rattle.reduce_edges.specs.inner.Staying.{flags_behind, stays_by, stays_of};
 
 use crate::graph::edge_in;

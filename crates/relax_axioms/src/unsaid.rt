@@ -52,7 +52,7 @@ fn said_of(
     Ok(said)
 }
 
-/// Adds what an axiom says, with whatever annotations it says it, where it is one of these.
+/// Adds what an axiom says, where it is one of these.
 fn push_said(
     alloc: Global,
     said: &mut IndexSet<Body>,
@@ -61,8 +61,15 @@ fn push_said(
 ) -> Result<(), NoMemory>
     ensures { OnOk result ((b : Body) → contains same_body said.new b ≡ (contains same_body said.old b || (contains same_body bodies.now b && same_body one.now.body b))) }
 {
-    if bodies.contains(&one.body) {
+    if has_body(bodies, one) {
         said.insert(one.body.copy(alloc)?)?;
     }
     Ok(())
+}
+
+/// Whether what an axiom says is one of these, with whatever annotations it says it.
+fn has_body(bodies: &IndexSet<Body>, one: &Axiom) -> bool
+    ensures { result ≡ contains same_body bodies.now one.now.body }
+{
+    bodies.contains(&one.body)
 }

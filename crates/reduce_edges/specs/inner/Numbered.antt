@@ -1,42 +1,6 @@
--- The edges of axioms, and these edges between numbers. (Own.)
-use Rattle.std.specs.Prelude.{ℕ, ◌≡◌, List, [], ◌∷◌, ◌++◌, Option, None, Some, map, slice_get}
-use Rattle.owl_axioms.specs.declared.body.Axiom.{Axiom}
-use Rattle.owl_axioms.specs.declared.body.Body.{Body}
-use Rattle.owl_axioms.specs.declared.body.Body.TheVariants as body
-use Rattle.owl_axioms.specs.declared.expr.ClassExpr.{ClassExpr}
-use Rattle.owl_axioms.specs.declared.expr.ClassExpr.TheVariants as expr
-
--- the names of two classes
-abbrev pub Pair : Type 0
-Pair = List ℕ × List ℕ
-
--- the name of a class
-unfoldable pub class_name : ClassExpr → Option (List ℕ)
-class_name (expr.Class iri) = Some iri
-class_name other = None
-
-abbrev pub pair_of : Option (List ℕ) → Option (List ℕ) → Option Pair
-pair_of (Some sub) (Some super) = Some (sub, super)
-pair_of one other = None
-
--- the edge that an axiom says
-unfoldable pub edge_in : Body → Option Pair
-edge_in (body.Sub sub super) = pair_of (class_name sub) (class_name super)
-edge_in other = None
-
--- with the edges before it
-abbrev pub push_edge : List Pair → Option Pair → List Pair
-push_edge pairs None = pairs
-push_edge pairs (Some pair) = pairs ++ pair ∷ []
-
-abbrev pub edge_list : Option Pair → List Pair
-edge_list None = []
-edge_list (Some pair) = pair ∷ []
-
--- the edges of axioms, in their order
-abbrev pub edges_of : List Axiom → List Pair
-edges_of [] = []
-edges_of (a ∷ axioms) = edge_list (edge_in a.body) ++ edges_of axioms
+-- Edges between numbers that stand for those between classes. (Own.)
+use Rattle.std.specs.Prelude.{ℕ, ◌≡◌, List, Option, Some, map, slice_get}
+use Rattle.reduce_edges.specs.Edges.{Pair}
 
 -- the names that two numbers stand for
 abbrev pub named : List (List ℕ) → ℕ × ℕ → Option (List ℕ) × Option (List ℕ)

@@ -3,7 +3,7 @@ use Rattle.std.specs.Prelude.{Bool, true, false, not, ◌&&◌, ◌||◌, List, 
 use Rattle.owl_axioms.specs.declared.annotation.Side.{Side}
 use Rattle.owl_axioms.specs.declared.body.Axiom.{Axiom}
 use Rattle.owl_ontology.specs.Ontology.{first_flag}
-use Rattle.reduce_edges.specs.inner.Numbered.{Pair, edge_in}
+use Rattle.reduce_edges.specs.Edges.{Pair, edge_in}
 
 abbrev pub has_some : List Side → Bool
 has_some [] = false

@@ -1,6 +1,7 @@
 use Rattle.std.proofs.Common.{subst, sym, take}
 use Rattle.owl_ontology.specs.Ontology.{axioms_of}
-use Rattle.reduce_edges.specs.inner.Numbered.{StandFor, edges_of}
+use Rattle.reduce_edges.specs.Edges.{edges_of}
+use Rattle.reduce_edges.specs.inner.Numbered.{StandFor}
 use Rattle.reduce_edges.proofs.Numbers.{edges_at}
 use Rattle.reduce_edges.proofs.graph.graph_of.Goals as goal
 

@@ -1,6 +1,7 @@
 use Rattle.std.proofs.Common.{take}
 use Rattle.owl_ontology.specs.Ontology.{axioms_of}
-use Rattle.reduce_edges.specs.inner.Numbered.{StandFor, edges_of}
+use Rattle.reduce_edges.specs.Edges.{edges_of}
+use Rattle.reduce_edges.specs.inner.Numbered.{StandFor}
 use Rattle.reduce_edges.proofs.graph.graph_of.Given as goal
 
 abbrev pub invariant-loop-at : goal.invariant-loop-at

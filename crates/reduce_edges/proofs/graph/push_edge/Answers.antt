@@ -1,5 +1,6 @@
 use Rattle.std.proofs.Common.{◌∷◌, ◌++◌, [], subst, sym}
-use Rattle.reduce_edges.specs.inner.Numbered.{AreMore, Pair, StandFor}
+use Rattle.reduce_edges.specs.Edges.{Pair}
+use Rattle.reduce_edges.specs.inner.Numbered.{AreMore, StandFor}
 use Rattle.reduce_edges.proofs.Numbers.{stands_push}
 use Rattle.reduce_edges.proofs.graph.push_edge.Goals as goal
 

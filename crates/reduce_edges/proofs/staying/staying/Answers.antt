@@ -1,6 +1,6 @@
 use Rattle.std.proofs.Common.{◌∷◌, ◌++◌, [], ap, sym, take, ◌∙◌}
 use Rattle.owl_ontology.specs.Ontology.{axioms_of}
-use Rattle.reduce_edges.specs.inner.Numbered.{edge_in}
+use Rattle.reduce_edges.specs.Edges.{edge_in}
 use Rattle.reduce_edges.specs.inner.Staying.{flags_behind, flags_left, stays_by, stays_of}
 use Rattle.reduce_edges.proofs.Numbers.{take_at}
 use Rattle.reduce_edges.proofs.Flags.{left_push, stays_push}
