@@ -44,7 +44,9 @@ fn run<F: Folder, O: Sink, E: Sink>(
     ensures { EndsWith (map string_bytes words.now.items) (outside (F.state folder.old) (O.state out.old) (E.state err.old)) result (outside (F.state folder.new) (O.state out.new) (E.state err.new)) }
 {
     let ended = release(alloc, words, folder, out, err);
-    ended.status
+    let status = ended.status;
+    drop(ended);
+    status
 }
 
 /// The words behind the program's name.
