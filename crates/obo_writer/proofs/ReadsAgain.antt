@@ -45,3 +45,8 @@ reads_back o check placed sound is spelled none limit short =
     let found = canonical_text.reads_back limit placed sound (subst (λ d. Rattle.obo_text.specs.Laws.LinesFit limit (norm d)) (sym is) short) in
     ∥∥₁_elim sound (λ a b. ∥∥₁_prop a b) (λ kept. ∥∥₁_map found (λ found.
     subst (ReadsAs limit o) text (as_read o check placed limit kept is spelled none found)))
+
+-- the text of the document is that of the ontology
+pub text_is : (o : OntologyState) (placed : List Placed) → map unlined placed ≡ back o.name (axioms_of o.entries) → canonical (map unlined placed) ≡ obo_text o
+unfolding obo_text
+text_is o placed is = ap canonical is
