@@ -1,11 +1,13 @@
 -- The whole of a saturation.
 use Rattle.std.proofs.Common.{◌≡◌, ℕ, ◌<◌, ◌≤◌, ◌^◌, Bool, IsTrue, List, None, Some, length, map, position, slice_get, sym, subst, ◌∙◌, arith}
 use Rattle.std.specs.List.{flat_map}
+use Rattle.std.proofs.lemmas.List.{length-map}
 use Rattle.fact_rows.specs.Member.{NoRepeats}
 use Rattle.owl_axioms.specs.declared.expr.ClassExpr.{ClassExpr}
 use Rattle.expr_pool.specs.Pool.{AreDifferent, tree_at}
 use Rattle.expr_pool.specs.declared.cell.Node.{Node}
 use Rattle.el_numbers.specs.Proper.{IsProper}
+use Rattle.el_numbers.proofs.CountLemmas.{ordered}
 use Rattle.el_numbers.specs.Saturated.{IsFault, IsSaturated}
 use Rattle.el_numbers.specs.Table.{Has, TableState, link_fact, size}
 use Rattle.el_numbers.specs.declared.fault.SaturationFault.{SaturationFault}
@@ -16,7 +18,7 @@ use Rattle.el_rules.specs.Rules.{ElView}
 use Rattle.el_part.specs.Part.{FitsPool, PartState, view_of}
 use Rattle.el_saturate.proofs.PartOver.{numbered}
 use Rattle.el_saturate.proofs.TableLemmas.{are_more, is_table}
-use Rattle.el_saturate.specs.Table.{Facts, IsFaultOf, IsTableOf, SaysLink, told}
+use Rattle.el_saturate.specs.Table.{Facts, HasRows, IsFaultOf, IsTableOf, SaysLink, told}
 use Rattle.el_saturate.specs.inner.Numbers.{AreNumbers, HasRestrictions, HasRoles, IsPartOver, roles_in, same_iri}
 
 -- what is made before the facts
@@ -45,6 +47,15 @@ proper_made trees state nums roles made m = m.numbered.proper
 
 pub table_made : (trees : List ClassExpr) (state : PartState) (nums : List ℕ) (roles : List (List ℕ)) (made : NumberedPart) (limit : ℕ) (t : TableState) (facts : Facts) → IsMade trees state nums roles made → IsSaturated made limit t → facts ≡ record { numbers = nums; roles = roles; table = t } → IsTableOf trees (view_of trees state) limit (size facts.table) facts
 table_made trees state nums roles made limit t facts m s e = subst (λ (f : Facts). IsTableOf trees (view_of trees state) limit (size f.table) f) (sym e) (is_table trees m.different state m.fits m.small nums m.are roles made m.numbered limit t s)
+
+-- and its rows
+pub rows_made : (trees : List ClassExpr) (state : PartState) (nums : List ℕ) (roles : List (List ℕ)) (made : NumberedPart) (limit : ℕ) (t : TableState) (facts : Facts) → IsMade trees state nums roles made → IsSaturated made limit t → facts ≡ record { numbers = nums; roles = roles; table = t } → HasRows state.occurring facts
+rows_made trees state nums roles made limit t facts m s e = subst (λ (f : Facts). HasRows state.occurring f) (sym e) (record {
+  number = m.are.number;
+  long = s.long ∙ m.numbered.shapes ∙ length-map state.occurring (tree_at trees);
+  small = m.small;
+  ordered = ordered made m.numbered.proper limit t s;
+})
 
 fault_of : (view : ElView) (part : NumberedPart) (n : Numbering) → IsNumbered view part n → (limit : ℕ) (f : SaturationFault) → IsFault part limit f → IsFaultOf view limit (told f)
 fault_of view part n is limit (numbers_fault.TooManyFacts k) h = (h.0, are_more view part n is limit h.1)

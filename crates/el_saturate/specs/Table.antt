@@ -1,10 +1,11 @@
 -- The table of the facts that are derived in an EL part, over the nodes of a pool, and when there is none. (Own.)
-use Rattle.std.specs.Prelude.{ℕ, ◌≡◌, ◌<◌, ◌≤◌, ◌↔◌, List, Some, length, nat_eq, position, slice_get}
+use Rattle.std.specs.Prelude.{ℕ, ◌≡◌, ◌<◌, ◌≤◌, ◌^◌, ◌↔◌, List, Some, length, nat_eq, position, slice_get}
 use Rattle.std.specs.Cmp.Lexicographic.{pointwise}
 use Rattle.fact_rows.specs.Member.{In, NoRepeats}
 use Rattle.owl_axioms.specs.declared.expr.ClassExpr.{ClassExpr}
 use Rattle.expr_pool.specs.Pool.{tree_at}
 use Rattle.expr_pool.specs.declared.cell.Node.{Node}
+use Rattle.el_numbers.specs.Laws.{RowsAreOrdered}
 use Rattle.el_numbers.specs.Table.{Has, TableState, below_fact, link_fact}
 use Rattle.el_numbers.specs.declared.fault.SaturationFault.{SaturationFault}
 use Rattle.el_numbers.specs.declared.fault.SaturationFault.TheVariants as numbers_fault
@@ -40,6 +41,14 @@ pub record IsTableOf (trees : List ClassExpr) (part : ElView) (limit count : ℕ
   pub link : (a : Node) (r : List ℕ) (b : Node) → a.place < length trees → b.place < length trees → SaysLink t a r b ↔ Derived part (HasLink (tree_at trees a) r (tree_at trees b))
   pub counted : IsNumberOfFacts part count
   pub few : count ≤ limit
+
+-- the number of each expression that occurs is its place among them, and the rows of numbers are a reflexive and transitive
+-- relation on these numbers
+pub record HasRows (occurring : List Node) (t : Facts) : Type 0 where
+  pub number : (k : ℕ) (n : Node) → slice_get occurring k ≡ Some n → slice_get t.numbers n.place ≡ Some k
+  pub long : length t.table.below ≡ length occurring
+  pub small : length occurring < 2 ^ 32
+  pub ordered : RowsAreOrdered t.table
 
 -- more facts are derived than the limit
 pub record AreMore (part : ElView) (limit : ℕ) : Type 0 where

@@ -32,6 +32,7 @@ fn told(fault: SaturationFault) -> SatFault
 pub fn saturate(alloc: Global, part: &ElPart, pool: &Pool, limit: u64) -> Result<Table, SatFault>
     requires { FitsPool pool.now part.now }
     ensures ok { IfOk result (λ table. spec.IsTableOf pool.now (view_of pool.now part.now) limit (size table.table) table) }
+    ensures rows { IfOk result (λ table. spec.HasRows part.now.occurring table) }
     ensures err { IfErr result (λ fault. spec.IsFaultOf (view_of pool.now part.now) limit fault) }
 {
     if part.occurring() > MOST {

@@ -5,6 +5,7 @@ ghost use Rattle.el_saturate.specs.Table.{SaysBelow, SaysLink};
 
 use el_numbers::Table as NumberTable;
 use expr_pool::Node;
+use fact_rows::NumberSet;
 use indexmap::IndexSet;
 use rel_io::Iri;
 use std::marker::Model;
@@ -76,6 +77,20 @@ impl Table {
                 },
             },
         }
+    }
+
+    /// The number of a node, if it has one.
+    pub fn number(&self, node: Node) -> Option<u32>
+        ensures { result ≡ slice_get self.now.numbers node.place }
+    {
+        number_at(&self.numbers, node)
+    }
+
+    /// What each number is below.
+    pub fn rows(&self) -> &[NumberSet]
+        ensures { result.now ≡ self.now.table.below }
+    {
+        self.table.rows()
     }
 
     /// The number of facts.

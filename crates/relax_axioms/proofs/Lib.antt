@@ -1,6 +1,6 @@
 mod Entailed
-mod Lists
-mod Missing
+pub mod Lists
+pub mod Missing
 mod Once
 mod Views
-mod Wanted
+pub mod Wanted

@@ -32,7 +32,7 @@ are_missing axioms b =
     any_filter (λ c. not (is_said axioms c)) b (each_once (all_implied axioms))
     ∙ ap (λ t. t && not (is_said axioms b)) (any_once b (all_implied axioms))
 
-in_keys : (keys : List Body) (b : Body) → In b keys → list_any (same_body b) keys ≡ true
+pub in_keys : (keys : List Body) (b : Body) → In b keys → list_any (same_body b) keys ≡ true
 in_keys keys b here = any_in (same_body b) b keys here (same_itself b b refl)
 
 -- what a set of the bodies that are implied is without those that are said
@@ -43,7 +43,7 @@ left_missing axioms keys said are those =
     (λ b here. ap not (those b ∙ ap (λ t. t && is_said axioms b) (in_keys keys b here)))
     ∙ ap (filter (λ b. not (is_said axioms b))) (are ∙ inserted_once (all_implied axioms))
 
-keys_in : (keys : List Body) (b : Body) → list_any (same_body b) keys ≡ true → In b keys
+pub keys_in : (keys : List Body) (b : Body) → list_any (same_body b) keys ≡ true → In b keys
 keys_in keys b h = let found = from_any (same_body b) keys h in subst (λ c. In c keys) (sym (same_body-true b found.0 found.2)) found.1
 
 wanted_key : (axioms : List Axiom) (keys : List Body) (b : Body) → AreMissing axioms keys → In b keys → (is_wanted axioms b ≡ true) × (is_said axioms b ≡ false)
@@ -134,7 +134,7 @@ apart_plain : (x : Body) (keys : List Body) → AllByRecursion (λ y. same_body 
 apart_plain x [] all = tt
 apart_plain x (y ∷ keys) all = (and-true (same_body x y) ∙ all.0, apart_plain x keys all.1)
 
-distinct_plain : (keys : List Body) → IsDistinct same_body keys → IsDistinct same_axiom (map plain keys)
+pub distinct_plain : (keys : List Body) → IsDistinct same_body keys → IsDistinct same_axiom (map plain keys)
 unfolding IsDistinct
 distinct_plain [] apart = tt
 distinct_plain (k ∷ keys) apart = (apart_plain k keys apart.0, distinct_plain keys apart.1)
@@ -152,7 +152,7 @@ relax_of_relaxes before =
       counted = refl;
     }
 
-length_map : (keys : List Body) → length keys ≡ length (map plain keys)
+pub length_map : (keys : List Body) → length keys ≡ length (map plain keys)
 length_map [] = refl
 length_map (k ∷ keys) = ap suc (length_map keys)
 

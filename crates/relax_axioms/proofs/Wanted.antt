@@ -172,10 +172,10 @@ found_wanted axioms class operand one =
 
 -- ---- what is implied is proper
 
-operands_proper : (operands : List ClassExpr) → is_proper_expr (expr.And operands) ≡ true → list_all is_proper_expr operands ≡ true
+pub operands_proper : (operands : List ClassExpr) → is_proper_expr (expr.And operands) ≡ true → list_all is_proper_expr operands ≡ true
 operands_proper operands is = (both_true _ _ (sym (are_proper_operands-is operands) ∙ sym (proper_of_and operands) ∙ is)).1
 
-pair_proper : (c d : ClassExpr) → is_proper_body (body.Equiv c d) ≡ true → (is_proper_expr c ≡ true) × (is_proper_expr d ≡ true)
+pub pair_proper : (c d : ClassExpr) → is_proper_body (body.Equiv c d) ≡ true → (is_proper_expr c ≡ true) × (is_proper_expr d ≡ true)
 unfolding is_proper_body is_proper_pair
 pair_proper c d is = both_true (is_proper_expr c) (is_proper_expr d) (both_true (is_proper_expr c && is_proper_expr d) (in_order (expr_text c) (expr_text d)) is).0
 
@@ -183,11 +183,11 @@ definition_proper : (said : Body) (class : List ℕ) (operands : List ClassExpr)
 definition_proper said class operands (inl is) proper = pair_proper (expr.Class class) (expr.And operands) (sym (ap is_proper_body is) ∙ proper)
 definition_proper said class operands (inr is) proper = let p = pair_proper (expr.And operands) (expr.Class class) (sym (ap is_proper_body is) ∙ proper) in (p.1, p.0)
 
-below_proper : (class : List ℕ) (operand : ClassExpr) → is_proper_expr (expr.Class class) ≡ true → is_proper_expr operand ≡ true → IsProper (plain (below class operand))
+pub below_proper : (class : List ℕ) (operand : ClassExpr) → is_proper_expr (expr.Class class) ≡ true → is_proper_expr operand ≡ true → IsProper (plain (below class operand))
 unfolding is_proper is_proper_body
 below_proper class operand one other = λ i. (one i && other i) && are_proper_sides-none i
 
-body_proper : (a : Axiom) → is_proper a ≡ true → is_proper_body a.body ≡ true
+pub body_proper : (a : Axiom) → is_proper a ≡ true → is_proper_body a.body ≡ true
 unfolding is_proper
 body_proper a is = (both_true (is_proper_body a.body) (are_proper_sides a.sides) is).0
 

@@ -28,8 +28,9 @@ pub fn relax(alloc: Global, ontology: &mut Ontology) -> Result<u64, NoMemory>
     Ok(missing.len() as u64)
 }
 
-/// The ontology with an axiom more for each of these, none of which it has.
-fn with_all(
+/// The ontology with an axiom more for each of these, none of which it has, as a step adds them: without annotations, behind
+/// all others.
+pub fn with_all(
     alloc: Global,
     ontology: &Ontology,
     bodies: &IndexSet<Body>,

@@ -78,8 +78,18 @@ fn both(alloc: Global) -> Result<ClassExpr, NoMemory>
     and_of(alloc, operands)
 }
 
+/// The intersection of the class a and what has some b by r.
+fn with_some(alloc: Global) -> Result<ClassExpr, NoMemory>
+    ensures { IfOk result (λ made. IsProperExpr made) }
+{
+    let a = class(alloc, b'a')?;
+    let b = some_class(alloc, b'r', b'b')?;
+    let operands = Vec::from_array(alloc, [a, b])?;
+    and_of(alloc, operands)
+}
+
 /// The expression of a letter: T and N are Thing and Nothing, A, B and C what has some a, b or c by r, S what has some b
-/// by s, Z what has some Nothing by r, I the intersection of a and b, and each other letter a class.
+/// by s, Z what has some Nothing by r, I the intersection of a and b, W that of a and B, and each other letter a class.
 #[tactic(auto, using(owl_axioms::proofs::Layers::proper_of_thing, owl_axioms::proofs::Layers::proper_of_nothing))]
 fn expr(alloc: Global, letter: u8) -> Result<ClassExpr, NoMemory>
     ensures { IfOk result (λ made. IsProperExpr made) }
@@ -88,6 +98,7 @@ fn expr(alloc: Global, letter: u8) -> Result<ClassExpr, NoMemory>
         b'T' => Ok(ClassExpr::Thing),
         b'N' => Ok(ClassExpr::Nothing),
         b'I' => both(alloc),
+        b'W' => with_some(alloc),
         b'Z' => some_of(alloc, b'r', ClassExpr::Nothing),
         b'A' => some_class(alloc, b'r', b'a'),
         b'B' => some_class(alloc, b'r', b'b'),
@@ -147,12 +158,12 @@ fn of_roles(alloc: Global, kind: u8) -> Result<Body, NoMemory>
     Ok(Body::SubRole(role, other))
 }
 
-/// That the class c is declared.
+/// That the class of a letter is declared.
 #[tactic(auto, using(crate::proofs::Letters::name_proper))]
-fn declared(alloc: Global) -> Result<Body, NoMemory>
+fn declared(alloc: Global, letter: u8) -> Result<Body, NoMemory>
     ensures { IfOk result (λ made. IsTrue (is_proper_unordered made)) }
 {
-    let iri = iri(alloc, b'c')?;
+    let iri = iri(alloc, small(letter))?;
     let name = Name {
         kind: Kind::Class,
         iri,
@@ -161,8 +172,8 @@ fn declared(alloc: Global) -> Result<Body, NoMemory>
 }
 
 /// What an axiom of three letters says: `<`, `=` and `|` of two expressions, `d` that the second is the domain of s, `g`
-/// that it is the range of r, `R` that r is a subrole of s, `t` that r is transitive, `D` that the class c is declared.
-fn said(alloc: Global, kind: u8, one: u8, other: u8) -> Result<Body, NoMemory>
+/// that it is the range of r, `R` that r is a subrole of s, `t` that r is transitive, `D` that the class of the second is declared.
+pub fn said(alloc: Global, kind: u8, one: u8, other: u8) -> Result<Body, NoMemory>
     ensures { IfOk result (λ made. IsTrue (is_proper_unordered made)) }
 {
     match kind {
@@ -170,7 +181,7 @@ fn said(alloc: Global, kind: u8, one: u8, other: u8) -> Result<Body, NoMemory>
         b'g' => of_ends(alloc, kind, other),
         b'R' => of_roles(alloc, kind),
         b't' => of_roles(alloc, kind),
-        b'D' => declared(alloc),
+        b'D' => declared(alloc, other),
         _ => of_classes(alloc, kind, one, other),
     }
 }
@@ -184,7 +195,7 @@ fn add(alloc: Global, ontology: &mut Ontology, kind: u8, one: u8, two: u8) -> Re
 }
 
 /// The ontology of some axioms.
-fn ontology_of(alloc: Global, axioms: &[(u8, u8, u8)]) -> Result<Ontology, NoMemory> {
+pub fn ontology_of(alloc: Global, axioms: &[(u8, u8, u8)]) -> Result<Ontology, NoMemory> {
     let mut ontology = Ontology::new(alloc, None)?;
     for (kind, one, two) in axioms {
         add(alloc, &mut ontology, *kind, *one, *two)?;
