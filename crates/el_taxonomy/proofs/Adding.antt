@@ -14,7 +14,7 @@ use Rattle.fact_rows.specs.Member.{In as InList}
 use Rattle.reduce_edges.specs.Edges.{edge}
 use Rattle.relax_axioms.specs.Relax.{step_entries}
 use Rattle.relax_axioms.specs.Relaxed.{plain}
-use Rattle.relax_axioms.specs.inner.Wanted.{same_body}
+use Rattle.relax_axioms.specs.Implied.{same_body}
 use Rattle.relax_axioms.proofs.Lists.{any_in, from_any}
 use Rattle.relax_axioms.proofs.Missing.{distinct_plain, in_keys, keys_in, length_map}
 use Rattle.relax_axioms.proofs.Wanted.{below_proper, same_body-true, same_itself}

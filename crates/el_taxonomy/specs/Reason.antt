@@ -1,5 +1,5 @@
 -- An ontology before reasoning and after, and when reasoning is refused. (Own; the role of the command `reason` of ROBOT.)
-use Rattle.std.specs.Prelude.{ℕ, ◌≡◌, ◌≤◌, ◌↔◌, ◌++◌, true, List, Contains, Some, length, slice_get}
+use Rattle.std.specs.Prelude.{ℕ, ◌≡◌, ◌≤◌, ◌↔◌, ◌++◌, true, List, Contains, Some, length, map, slice_get}
 use Rattle.std.specs.List.{IsDistinct}
 use Rattle.owl_axioms.specs.Names.{name_of}
 use Rattle.owl_axioms.specs.Proper.{in_order}
@@ -12,7 +12,9 @@ use Rattle.owl_ontology.specs.Origins.{comes_before}
 use Rattle.el_rules.specs.ElPart.{unused_of}
 use Rattle.el_rules.specs.Rules.{ElView, IsElPartOf}
 use Rattle.el_saturate.specs.Table.{AreMore, IsNumberOfFacts}
+use Rattle.el_taxonomy.specs.Direct.{AreDirectEdges}
 use Rattle.el_taxonomy.specs.Taxonomy.{IsDeclaredClass, IsDirectEdge, IsEmpty}
+use Rattle.el_taxonomy.specs.declared.edge.Edge.{Edge}
 use Rattle.el_taxonomy.specs.declared.fault.ReasonFault.{ReasonFault}
 use Rattle.el_taxonomy.specs.declared.fault.ReasonFault.TheVariants as fault
 use Rattle.reduce_edges.specs.Edges.{edge}
@@ -33,9 +35,17 @@ pub record IsInferred (axioms : List Axiom) (view : ElView) (added : Axiom) : Ty
   pub direct : IsDirectEdge axioms view sub super
   pub is : added ≡ plain (edge sub super)
 
--- what was there stays as it is and in its place; behind it come exactly the inferred axioms, each once, and so many
+-- the inclusion that an edge stands for, without annotations
+abbrev pub inclusion_of : Edge → Axiom
+inclusion_of e = plain (edge e.sub e.sup)
+
+-- what was there stays as it is and in its place; behind it come the inclusions of the direct edges that are not stated, in
+-- the order of the names of these: so exactly the inferred axioms, each once, and so many
 pub record Infers (view : ElView) (before after : OntologyState) (count : ℕ) : Type 0 where
+  pub edges : List Edge
+  pub are : AreDirectEdges (axioms_of before.entries) view edges
   pub added : List Axiom
+  pub added_are : added ≡ map inclusion_of edges
   pub name : after.name ≡ before.name
   pub entries : after.entries ≡ before.entries ++ step_entries added
   pub exactly : (a : Axiom) → Contains added a ↔ IsInferred (axioms_of before.entries) view a

@@ -9,7 +9,7 @@ ghost use Rattle.el_taxonomy.specs.inner.Adding.{IsJudged, is_listed, told_as};
 ghost use Rattle.owl_ontology.specs.Ontology.{axioms_of};
 ghost use Rattle.owl_sem.specs.Laws.{KeepBoth};
 ghost use Rattle.reduce_edges.specs.Edges.{edge};
-ghost use Rattle.relax_axioms.specs.inner.Wanted.{same_body};
+ghost use Rattle.relax_axioms.specs.Implied.{same_body};
 
 use crate::direct::direct_edges;
 use crate::unsatisfiable::first_unsatisfiable;

@@ -11,7 +11,7 @@ use Rattle.el_taxonomy.specs.declared.edge.Edge.{Edge}
 use Rattle.el_taxonomy.specs.declared.fault.ReasonFault.{ReasonFault}
 use Rattle.el_taxonomy.specs.declared.fault.ReasonFault.TheVariants as fault
 use Rattle.reduce_edges.specs.Edges.{edge}
-use Rattle.relax_axioms.specs.inner.Wanted.{same_body}
+use Rattle.relax_axioms.specs.Implied.{same_body}
 
 -- some edge stands for the inclusion
 abbrev pub is_listed : List Edge → Body → Bool

@@ -1,7 +1,7 @@
 use Rattle.std.proofs.Common.{◌||◌, ap, length, refl, sym, ◌∙◌}
 use Rattle.std.proofs.lemmas.Option.{slice_get_read}
 use Rattle.reduce_edges.specs.Edges.{edge}
-use Rattle.relax_axioms.specs.inner.Wanted.{same_body}
+use Rattle.relax_axioms.specs.Implied.{same_body}
 use Rattle.relax_axioms.proofs.Lists.{any_next}
 use Rattle.el_taxonomy.specs.declared.edge.Edge.{Edge}
 use Rattle.el_taxonomy.proofs.reasoning.inclusions.Goals as goal

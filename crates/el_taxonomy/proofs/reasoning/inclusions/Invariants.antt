@@ -1,7 +1,7 @@
 use Rattle.std.proofs.Common.{◌≡◌, take}
 use Rattle.indexmap.specs.IndexSet.{contains}
 use Rattle.owl_axioms.specs.declared.body.Body.{Body}
-use Rattle.relax_axioms.specs.inner.Wanted.{same_body}
+use Rattle.relax_axioms.specs.Implied.{same_body}
 use Rattle.el_taxonomy.specs.inner.Adding.{is_listed}
 use Rattle.el_taxonomy.proofs.reasoning.inclusions.Given as goal
 
