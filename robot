@@ -22,12 +22,14 @@ ROBOT of the OBO Foundry.
 
   merge      --input FILE, once or more; --catalog FILE, two columns: what is imported and the file for it
   extract    --method BOT, TOP or STAR; --term-file FILE, an id or IRI a line: keeps the module of these terms
+  reason     adds the direct edges between classes that follow and no axiom says
   relax      adds the inclusions that definitions imply
   reduce     --preserve-annotated-axioms true or false (false): drops the inclusions that others make redundant
   convert    --output FILE; --format obo or ofn; --check true or false (true): false writes a frame with two names
-  reason, generate N   are not supported yet
 
-merge stands first. Each step may have --output FILE, and writes the axioms as they are behind it. A name that ends in
+  generate N   takes a made ontology of this size (10 to 1000000) through all steps in memory, and reports
+
+merge stands first, or generate alone. Each step may have --output FILE, and writes the axioms as they are behind it. A name that ends in
 .obo or .ofn tells the format. No output may be an input, or stand twice.
 
 Status  0  done

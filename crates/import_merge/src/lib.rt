@@ -11,5 +11,5 @@ mod loading;
 mod merged;
 
 pub use laws::{files_decide, order_is_free};
-pub use loading::load;
+pub use loading::{load, merge_file};
 pub use merged::{FileNote, Merged};

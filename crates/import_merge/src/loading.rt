@@ -1,11 +1,12 @@
-//! `load`: the ontology of a run's files.
-ghost use Rattle.std.specs.Prelude.{◌≡◌, ◌+◌, ◌^◌, ◌<◌, IfOk, OnOk, length};
+//! `load`: the ontology of a run's files; and that of one file alone.
+ghost use Rattle.std.specs.Prelude.{◌≡◌, ◌+◌, ◌^◌, ◌<◌, [], ◌∷◌, IfOk, OnOk, length};
 ghost use Rattle.std.specs.Option.{option_copied};
 ghost use Rattle.rel_io.specs.FolderState.{NoCountFell};
 ghost use Rattle.owl_ontology.specs.Ontology.{axioms_of};
 ghost use Rattle.obo_mapping.specs.Back.{IsSpellable};
 ghost use Rattle.import_closure.specs.Closure.{reading};
 ghost use Rattle.import_closure.specs.Loading.{LoadsAs};
+ghost use Rattle.import_merge.specs.Merged.{IsMerged};
 ghost use Rattle.import_merge.specs.Notes.{IsLoaded, file_note};
 ghost use Rattle.import_merge.specs.inner.Joining.{Joins, KeepsSpelling};
 
@@ -61,6 +62,17 @@ fn merged(alloc: Global, sources: &[SourceFile]) -> Result<Merged, NoMemory>
     }
     let files = Items::from_vec(files);
     Ok(Merged { ontology, files })
+}
+
+/// The ontology of one file alone, with a note of it.
+pub fn merge_file(alloc: Global, source: &SourceFile) -> Result<(Ontology, FileNote), NoMemory>
+    ensures merged { IfOk result (λ made. IsMerged (source.now ∷ []) made.0) }
+    ensures note { IfOk result (λ made. made.1 ≡ file_note source.now) }
+    ensures spellable { IfOk result (λ made. IsSpellable made.0.name (axioms_of made.0.entries)) }
+{
+    let mut ontology = Ontology::new(alloc, None)?;
+    let note = join_file(alloc, &mut ontology, source, 0)?;
+    Ok((ontology, note))
 }
 
 /// Merges a file into the ontology of those before it, and notes what it has.

@@ -2,13 +2,13 @@
 use Rattle.std.proofs.Common.{◌≡◌, Option, Some, None, Result, Ok, Err, refl, sym, ap, subst, inl, inr, ◌⊎◌}
 use Rattle.rel_io.specs.FolderState.{Files, FolderState}
 use Rattle.chain_words.specs.Fault.{Reading}
-use Rattle.chain_words.specs.declared.command.Chain.{Chain}
 use Rattle.chain_words.specs.declared.command.Command.{Command}
 use Rattle.chain_words.specs.declared.command.Command.TheVariants.{Run, Generate}
 use Rattle.release_report.specs.Cause.{Cause, Words, Refused, Absent, NotRead, NotWritten, NotReported, RanOut, cause_of}
 use Rattle.release_report.specs.declared.fault.Fault.{Fault}
 use Rattle.release_report.specs.declared.fault.Fault.TheVariants as fault
-use Rattle.release_chain.specs.Run.{asked_by, built_or, chain_part, first_unbuilt}
+use Rattle.release_chain.specs.Steps.{chain_part}
+use Rattle.release_chain.specs.Run.{asked_by}
 use Rattle.release_chain.specs.declared.work.Work.{Work}
 use Rattle.release_chain.specs.inner.Finish.{AskFails, WordsEnd}
 use Rattle.release_chain.proofs.Parts.{ran_out_first}
@@ -23,26 +23,22 @@ pub not_reported_is : (one : Fault) → cause_of one ≡ NotReported → one ≡
 not_reported_is fault.SinkFault e = refl
 not_reported_is other e = absurd (cc)
 
-unbuilt : (least : Option _) (chain : Chain) (refusal : Fault) → built_or least chain ≡ Err refusal → cause_of refusal ≡ Words
-unbuilt None chain refusal e = absurd (let none : ◌≡◌ {A = Result Chain Fault} (Ok chain) (Err refusal) = e in cc)
-unbuilt (Some at) chain refusal e = let is : fault.StepNotBuilt at ≡ refusal = cc in subst (λ one. cause_of one ≡ Words) is refl
-
--- the words alone are refused before a chain
+-- the words alone are refused before anything is done
 pub asked_words : (reading : Reading Command) (refusal : Fault) → asked_by reading ≡ Err refusal → cause_of refusal ≡ Words
 asked_words (Err bad) refusal e = let is : fault.BadWord bad.index bad.kind ≡ refusal = cc in subst (λ one. cause_of one ≡ Words) is refl
-asked_words (Ok (Generate size)) refusal e = let is : fault.StepNotBuilt 0 ≡ refusal = cc in subst (λ one. cause_of one ≡ Words) is refl
-asked_words (Ok (Run told)) refusal e = unbuilt (first_unbuilt 1 told.steps) told refusal e
+asked_words (Ok command) refusal e = absurd (let none : ◌≡◌ {A = Result Command Fault} (Ok command) (Err refusal) = e in cc)
 
-no_memory : (told : Result Chain Fault) (before : FolderState) → WordsEnd told before (Err fault.NoMemory) before
+no_memory : (told : Result Command Fault) (before : FolderState) → WordsEnd told before (Err fault.NoMemory) before
 no_memory (Err refusal) before = record { untouched = refl; refused = inr refl }
-no_memory (Ok chain) before = record {
+no_memory (Ok (Generate size)) before = record { untouched = refl; ends = record { merged = None; order = tt; answers = tt } }
+no_memory (Ok (Run chain)) before = record {
   caused = tt;
   once = tt;
   ends = λ files is. record { merged = None; order = tt; ends = ran_out_first (chain_part files None chain) fault.NoMemory before.holds before.holds refl };
 }
 
--- the words were not read to a chain
-pub ask_fails : (told : Result Chain Fault) (one : Fault) (cause : Cause) → cause_of one ≡ cause → AskFails cause told one → (before : FolderState) → WordsEnd told before (Err one) before
+-- the words were not read
+pub ask_fails : (told : Result Command Fault) (one : Fault) (cause : Cause) → cause_of one ≡ cause → AskFails cause told one → (before : FolderState) → WordsEnd told before (Err one) before
 ask_fails told one Words is fails before = subst (λ told. WordsEnd told before (Err one) before) (sym fails) (record { untouched = refl; refused = inl refl })
 ask_fails told one RanOut is fails before = subst (λ (one : Fault). WordsEnd told before (Err one) before) (sym (ran_out_is one is)) (no_memory told before)
 ask_fails told one Refused is fails before = absurd fails

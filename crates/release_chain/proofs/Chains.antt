@@ -11,7 +11,8 @@ use Rattle.chain_words.specs.declared.command.Chain.{Chain}
 use Rattle.release_report.specs.declared.fault.Fault.{Fault}
 use Rattle.release_chain.specs.Ending.{Did, Ends, IsTold, SameAt, SameAtAll}
 use Rattle.release_chain.specs.Part.{Opens, Part, then_do}
-use Rattle.release_chain.specs.Run.{Trace, chain_part, load_part, output_part, sources_of, steps_part}
+use Rattle.release_chain.specs.Trace.{Trace, load_part, sources_of}
+use Rattle.release_chain.specs.Steps.{chain_part, output_part, steps_part}
 use Rattle.release_chain.specs.declared.work.Work.{Work}
 use Rattle.release_chain.specs.inner.Finish.{ChainEnds, LoadEnds}
 use Rattle.release_chain.specs.inner.Names.{AreApart, all_read, all_written, put_names}

@@ -7,14 +7,20 @@ use Rattle.rel_io.specs.Sink.{Appends, SinkState, WritesPart}
 use Rattle.chain_words.specs.Read.{chain}
 use Rattle.chain_words.specs.Word.{Word}
 use Rattle.chain_words.specs.declared.command.Chain.{Chain}
+use Rattle.chain_words.specs.declared.command.Command.{Command}
+use Rattle.chain_words.specs.declared.command.Command.TheVariants.{Run, Generate}
 use Rattle.release_report.specs.Cause.{Cause, Words, Refused, Absent, NotRead, NotWritten, NotReported, RanOut, cause_of}
 use Rattle.release_report.specs.EntryText.{report_text}
 use Rattle.release_report.specs.declared.fault.Fault.{Fault}
 use Rattle.release_report.specs.declared.fault.Fault.TheVariants as fault
+use Rattle.release_chain.specs.Answer.{FailsBy}
+use Rattle.release_chain.specs.Generated.{generated_answer}
 use Rattle.release_chain.specs.Ending.{Caused, Counted, Ends, IsCut, IsDone, IsTold, StopsBy}
 use Rattle.release_chain.specs.Part.{Part, answers}
 use Rattle.release_chain.specs.Release.{CauseCounted, Counts, EndsAs, IsWordsRefused, NothingFailed, OutBy, Outside, ReportIs, ReportedPart, Stopped, WordsRefused}
-use Rattle.release_chain.specs.Run.{OfChain, OfRun, OfTold, Trace, asked, chain_part}
+use Rattle.release_chain.specs.Trace.{Trace}
+use Rattle.release_chain.specs.Steps.{chain_part}
+use Rattle.release_chain.specs.Run.{OfChain, OfRun, OfTold, asked, generated_part}
 use Rattle.release_chain.specs.declared.work.Work.{Work}
 use Rattle.release_chain.specs.inner.Finish.{FinishFails, Finishes, IsReported, WordsEnd}
 use Rattle.release_chain.specs.inner.Work.{IsAt}
@@ -23,15 +29,16 @@ use Rattle.release_chain.proofs.Asked.{asked_words, ran_out_is}
 -- ---- what is said of a run
 
 -- it is said of a chain where it is said over told files
-pub of_chain : (chain : Chain) (held : Option Files) (P : Part Trace → Type 0) → ((files : Files) → held ≡ Some files → OfChain files chain P) → OfTold (Ok chain) held P
+pub of_chain : (chain : Chain) (held : Option Files) (P : Part Trace → Type 0) → ((files : Files) → held ≡ Some files → OfChain files chain P) → OfTold (Ok (Run chain)) held P
 of_chain chain None P h = tt
 of_chain chain (Some files) P h = h files refl
 
 -- what follows from it is said too
-pub of_more : {P Q : Part Trace → Type 0} (told : Result Chain Fault) (held : Option Files) → ((run : Part Trace) → P run → Q run) → OfTold told held P → OfTold told held Q
+pub of_more : {P Q : Part Trace → Type 0} (told : Result Command Fault) (held : Option Files) → ((run : Part Trace) → P run → Q run) → OfTold told held P → OfTold told held Q
 of_more (Err refusal) held more says = more (answers (Err refusal)) says
-of_more (Ok chain) None more says = tt
-of_more (Ok chain) (Some files) more says = record { merged = says.merged; order = says.order; says = more (chain_part files says.merged chain) says.says }
+of_more (Ok (Generate size)) held more says = record { merged = says.merged; order = says.order; says = more (generated_part size says.merged) says.says }
+of_more (Ok (Run chain)) None more says = tt
+of_more (Ok (Run chain)) (Some files) more says = record { merged = says.merged; order = says.order; says = more (chain_part files says.merged chain) says.says }
 
 -- ---- counts
 
@@ -44,19 +51,30 @@ counted_outside (NotWritten name) before now counted = counted
 counted_outside NotReported before now counted = absurd counted
 counted_outside RanOut before now counted = tt
 
+-- what is answered without the folder counts nothing
+answered_counted : (cause : Cause) (answer : Result Trace Fault) (one : Fault) (before now : Outside) → FailsBy cause answer one → CauseCounted cause before now
+answered_counted Words answer one before now fails = tt
+answered_counted Refused answer one before now fails = tt
+answered_counted Absent answer one before now fails = absurd fails
+answered_counted (NotRead name) answer one before now fails = absurd fails
+answered_counted (NotWritten name) answer one before now fails = absurd fails
+answered_counted NotReported answer one before now fails = absurd fails
+answered_counted RanOut answer one before now fails = tt
+
 -- every refusal of words is one of words
-abbrev pub OfWords : Result Chain Fault → Type 0
+abbrev pub OfWords : Result Command Fault → Type 0
 OfWords told = (refusal : Fault) → told ≡ Err refusal → cause_of refusal ≡ Words
 
-words_counted : (told : Result Chain Fault) (one : Fault) (before now : Outside) → OfWords told → WordsEnd told before.folder (Err one) now.folder → CauseCounted (cause_of one) before now
-words_counted (Ok chain) one before now words ends = counted_outside (cause_of one) before now ends.caused
+words_counted : (told : Result Command Fault) (one : Fault) (before now : Outside) → OfWords told → WordsEnd told before.folder (Err one) now.folder → CauseCounted (cause_of one) before now
+words_counted (Ok (Generate size)) one before now words ends = answered_counted (cause_of one) (generated_answer size ends.ends.merged) one before now ends.ends.answers
+words_counted (Ok (Run chain)) one before now words ends = counted_outside (cause_of one) before now ends.caused
 words_counted (Err refusal) one before now words ends =
     ⊎_elim
     (λ is. let same : one ≡ refusal = cc in let cause : cause_of one ≡ Words = ap cause_of same ∙ words refusal refl in rw cause tt)
     (λ is. let same : one ≡ fault.NoMemory = cc in rw same tt)
     ends.refused
 
-finish_counts : (told : Result Chain Fault) (one : Fault) (cause : Cause) (before now : Outside) → OfWords told → cause_of one ≡ cause → FinishFails cause told one before.folder now.folder before.out now.out → CauseCounted (cause_of one) before now
+finish_counts : (told : Result Command Fault) (one : Fault) (cause : Cause) (before now : Outside) → OfWords told → cause_of one ≡ cause → FinishFails cause told one before.folder now.folder before.out now.out → CauseCounted (cause_of one) before now
 finish_counts told one Words before now words is fails = words_counted told one before now words fails.1
 finish_counts told one Refused before now words is fails = words_counted told one before now words fails.1
 finish_counts told one Absent before now words is fails = words_counted told one before now words fails.1
@@ -76,8 +94,23 @@ stops_by (NotWritten name) part one before now stops = stops
 stops_by NotReported part one before now stops = absurd stops
 stops_by RanOut part one before now stops = stops
 
-run_stops : (told : Result Chain Fault) (one : Fault) (before now : Outside) → OfWords told → WordsEnd told before.folder (Err one) now.folder → OfTold told before.folder.holds (λ run. Stopped (cause_of one) one run before now)
-run_stops (Ok chain) one before now words ends =
+-- where the folder was not touched
+answered_stops : (cause : Cause) (answer : Result Trace Fault) (one : Fault) (before now : Outside) → now.folder ≡ before.folder → FailsBy cause answer one → Stopped cause one (answers answer) before now
+answered_stops Words answer one before now same fails = absurd fails
+answered_stops Refused answer one before now same fails = record { refusal = ap result_err fails; did = ap (λ (state : FolderState). state.holds) same }
+answered_stops Absent answer one before now same fails = absurd fails
+answered_stops (NotRead name) answer one before now same fails = absurd fails
+answered_stops (NotWritten name) answer one before now same fails = absurd fails
+answered_stops NotReported answer one before now same fails = absurd fails
+answered_stops RanOut answer one before now same fails = record { done = []; rest = []; in_order = refl; did = ap (λ (state : FolderState). state.holds) same }
+
+run_stops : (told : Result Command Fault) (one : Fault) (before now : Outside) → OfWords told → WordsEnd told before.folder (Err one) now.folder → OfTold told before.folder.holds (λ run. Stopped (cause_of one) one run before now)
+run_stops (Ok (Generate size)) one before now words ends = record {
+  merged = ends.ends.merged;
+  order = ends.ends.order;
+  says = answered_stops (cause_of one) (generated_answer size ends.ends.merged) one before now ends.untouched ends.ends.answers;
+}
+run_stops (Ok (Run chain)) one before now words ends =
     of_chain chain before.folder.holds (λ run. Stopped (cause_of one) one run before now) (λ files is.
     let told = ends.ends files is in
     record { merged = told.merged; order = told.order; says = stops_by (cause_of one) (chain_part files told.merged chain) one before now told.ends })
@@ -100,8 +133,19 @@ pub record IsDoneRun (work : Work) (before now : Outside) (run : Part Trace) : T
 at_ok : (answer : Result Trace Fault) (state : Trace) (work : Work) → answer ≡ Ok state → IsAt work state → IfOk answer (λ trace. IsAt work trace)
 at_ok answer state work is at = subst (λ answer. IfOk answer (λ trace. IsAt work trace)) (sym is) at
 
-pub run_done : (told : Result Chain Fault) (work : Work) (before now : Outside) → WordsEnd told before.folder (Ok work) now.folder → OfTold told before.folder.holds (IsDoneRun work before now)
-run_done (Ok chain) work before now ends =
+pub run_done : (told : Result Command Fault) (work : Work) (before now : Outside) → WordsEnd told before.folder (Ok work) now.folder → OfTold told before.folder.holds (IsDoneRun work before now)
+run_done (Ok (Generate size)) work before now ends =
+    let answer = generated_answer size ends.ends.merged in
+    let end = ends.ends.answers in
+    record {
+      merged = ends.ends.merged;
+      order = ends.ends.order;
+      says = record {
+        ends = record { refusal = ap result_err end.answered; did = ap (λ (state : FolderState). state.holds) ends.untouched };
+        at = at_ok answer end.state work end.answered end.seen;
+      };
+    }
+run_done (Ok (Run chain)) work before now ends =
     of_chain chain before.folder.holds (IsDoneRun work before now) (λ files is.
     let told = ends.ends files is in
     let end = told.ends in
@@ -115,7 +159,7 @@ run_done (Ok chain) work before now ends =
     })
 run_done (Err refusal) work before now ends = absurd (⊎_elim (λ is. let none : ◌≡◌ {A = Result Work Fault} (Ok work) (Err refusal) = is in absurd (cc)) (λ is. let none : ◌≡◌ {A = Result Work Fault} (Ok work) (Err fault.NoMemory) = is in absurd (cc)) ends.refused)
 
-finish_stops : (told : Result Chain Fault) (one : Fault) (cause : Cause) (before now : Outside) → OfWords told → cause_of one ≡ cause → FinishFails cause told one before.folder now.folder before.out now.out → OfTold told before.folder.holds (λ run. Stopped (cause_of one) one run before now)
+finish_stops : (told : Result Command Fault) (one : Fault) (cause : Cause) (before now : Outside) → OfWords told → cause_of one ≡ cause → FinishFails cause told one before.folder now.folder before.out now.out → OfTold told before.folder.holds (λ run. Stopped (cause_of one) one run before now)
 finish_stops told one Words before now words is fails = run_stops told one before now words fails.1
 finish_stops told one Refused before now words is fails = run_stops told one before now words fails.1
 finish_stops told one Absent before now words is fails = run_stops told one before now words fails.1
@@ -136,7 +180,7 @@ finish_stops told one RanOut before now words is fails =
 
 -- ---- completeness
 
-completes : (told : Result Chain Fault) (held : Option Files) (one : Fault) (cause : Cause) (before now : Outside) → cause_of one ≡ cause → OfTold told held (λ run. Stopped cause one run before now) → CauseCounted cause before now → NothingFailed before now → ¬ (Some one ≡ Some fault.NoMemory) → OfTold told held (λ run. EndsAs run (Some one) before now)
+completes : (told : Result Command Fault) (held : Option Files) (one : Fault) (cause : Cause) (before now : Outside) → cause_of one ≡ cause → OfTold told held (λ run. Stopped cause one run before now) → CauseCounted cause before now → NothingFailed before now → ¬ (Some one ≡ Some fault.NoMemory) → OfTold told held (λ run. EndsAs run (Some one) before now)
 completes told held one Words before now is stops counted failed memory = stops
 completes told held one Refused before now is stops counted failed memory = stops
 completes told held one Absent before now is stops counted failed memory = stops
@@ -205,41 +249,42 @@ out words one before now fails = out_by words one (cause_of one) before now fail
 
 -- ---- the words
 
-words_always : (told : Result Chain Fault) (one : Fault) (before now : Outside) → WordsEnd told before.folder (Err one) now.folder → IfErr told (λ refusal. (Some one ≡ Some refusal) ⊎ (Some one ≡ Some fault.NoMemory))
-words_always (Ok chain) one before now ends = tt
+words_always : (told : Result Command Fault) (one : Fault) (before now : Outside) → WordsEnd told before.folder (Err one) now.folder → IfErr told (λ refusal. (Some one ≡ Some refusal) ⊎ (Some one ≡ Some fault.NoMemory))
+words_always (Ok command) one before now ends = tt
 words_always (Err refusal) one before now ends =
     ⊎_elim (λ is. let same : one ≡ refusal = cc in inl (ap (λ (one : Fault). Some one) same)) (λ is. let same : one ≡ fault.NoMemory = cc in inr (ap (λ (one : Fault). Some one) same)) ends.refused
 
-words_untouched : (told : Result Chain Fault) (result : Result Work Fault) (before now : Outside) → WordsEnd told before.folder result now.folder → IfErr told (λ _. now.folder ≡ before.folder)
-words_untouched (Ok chain) result before now ends = tt
+words_untouched : (told : Result Command Fault) (result : Result Work Fault) (before now : Outside) → WordsEnd told before.folder result now.folder → IfErr told (λ _. now.folder ≡ before.folder)
+words_untouched (Ok command) result before now ends = tt
 words_untouched (Err refusal) result before now ends = ends.untouched
 
--- a chain never ends with a fault of words
-words_only : (told : Result Chain Fault) (one : Fault) (before now : Outside) → WordsEnd told before.folder (Err one) now.folder → cause_of one ≡ Words → told ≡ Err one
-words_only (Ok chain) one before now ends is = absurd (subst (λ cause. Counted cause before.folder now.folder) is ends.caused)
+-- neither a chain nor `generate` ends with a fault of words
+words_only : (told : Result Command Fault) (one : Fault) (before now : Outside) → WordsEnd told before.folder (Err one) now.folder → cause_of one ≡ Words → told ≡ Err one
+words_only (Ok (Generate size)) one before now ends is = absurd (subst (λ cause. FailsBy cause (generated_answer size ends.ends.merged) one) is ends.ends.answers)
+words_only (Ok (Run chain)) one before now ends is = absurd (subst (λ cause. Counted cause before.folder now.folder) is ends.caused)
 words_only (Err refusal) one before now ends is =
     ⊎_elim
     (λ told. let same : one ≡ refusal = cc in ap (λ (one : Fault). Err one) (sym same))
     (λ told. let same : one ≡ fault.NoMemory = cc in absurd (let cause : RanOut ≡ Words = sym (ap cause_of same) ∙ is in cc))
     ends.refused
 
-by_end : (told : Result Chain Fault) (one : Fault) (before now : Outside) → WordsEnd told before.folder (Err one) now.folder → IsWordsRefused told before (Some one) now
+by_end : (told : Result Command Fault) (one : Fault) (before now : Outside) → WordsEnd told before.folder (Err one) now.folder → IsWordsRefused told before (Some one) now
 by_end told one before now ends = record {
   always = words_always told one before now ends;
   only = λ other e is. let same : one ≡ other = cc in words_only told one before now ends (ap cause_of same ∙ is) ∙ ap (λ (one : Fault). Err one) same;
   untouched = words_untouched told (Err one) before now ends;
 }
 
--- where a run is done, the words ask for a chain
-by_done : (told : Result Chain Fault) (one : Fault) (work : Work) (before now : Outside) → WordsEnd told before.folder (Ok work) now.folder → ¬ (cause_of one ≡ Words) → IsWordsRefused told before (Some one) now
-by_done (Ok chain) one work before now ends other = record {
+-- where a run is done, the words ask for it
+by_done : (told : Result Command Fault) (one : Fault) (work : Work) (before now : Outside) → WordsEnd told before.folder (Ok work) now.folder → ¬ (cause_of one ≡ Words) → IsWordsRefused told before (Some one) now
+by_done (Ok command) one work before now ends other = record {
   always = tt;
   only = λ that e is. absurd (let same : one ≡ that = cc in other (ap cause_of same ∙ is));
   untouched = tt;
 }
 by_done (Err refusal) one work before now ends other = absurd (⊎_elim (λ is. let none : ◌≡◌ {A = Result Work Fault} (Ok work) (Err refusal) = is in absurd (cc)) (λ is. let none : ◌≡◌ {A = Result Work Fault} (Ok work) (Err fault.NoMemory) = is in absurd (cc)) ends.refused)
 
-words_by : (told : Result Chain Fault) (one : Fault) (cause : Cause) (before now : Outside) → cause_of one ≡ cause → FinishFails cause told one before.folder now.folder before.out now.out → IsWordsRefused told before (Some one) now
+words_by : (told : Result Command Fault) (one : Fault) (cause : Cause) (before now : Outside) → cause_of one ≡ cause → FinishFails cause told one before.folder now.folder before.out now.out → IsWordsRefused told before (Some one) now
 words_by told one Words before now is fails = by_end told one before now fails.1
 words_by told one Refused before now is fails = by_end told one before now fails.1
 words_by told one Absent before now is fails = by_end told one before now fails.1

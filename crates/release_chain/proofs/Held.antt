@@ -9,11 +9,15 @@ use Rattle.chain_words.specs.Command.{is_one_of, output_names, times, writes_of,
 use Rattle.chain_words.specs.Laws.{NoOutputTwice}
 use Rattle.chain_words.specs.Word.{Name, same}
 use Rattle.chain_words.specs.declared.command.Chain.{Chain}
+use Rattle.chain_words.specs.declared.command.Command.{Command}
+use Rattle.chain_words.specs.declared.command.Command.TheVariants.{Run, Generate}
 use Rattle.release_report.specs.declared.fault.Fault.{Fault}
 use Rattle.release_chain.specs.Ending.{Did, IsTold, SameAt}
 use Rattle.release_chain.specs.Part.{Act, Opens, Output, Puts}
 use Rattle.release_chain.specs.Release.{IsReleased, PutsAll}
-use Rattle.release_chain.specs.Run.{OfTold, Trace, chain_part, steps_part, turn_part}
+use Rattle.release_chain.specs.Trace.{Trace}
+use Rattle.release_chain.specs.Steps.{chain_part, steps_part, turn_part}
+use Rattle.release_chain.specs.Run.{OfTold}
 use Rattle.release_chain.specs.declared.work.Work.{Work}
 use Rattle.release_chain.specs.inner.Finish.{WordsEnd}
 use Rattle.release_chain.specs.inner.Names.{all_written, put_names}
@@ -87,9 +91,10 @@ chain_released files merged chain work before now once is done =
     (λ name. rw (chain_puts files merged chain done.state done.done.answered) (once name))
     (subst (λ held. Did (chain_part files merged chain).acts held now) is done.done.did)
 
-pub released : (told : Result Chain Fault) (work : Work) (before now : FolderState) → WordsEnd told before (Ok work) now → OfTold told before.holds (λ run. PutsAll (IsReleased now.holds) run.acts)
+pub released : (told : Result Command Fault) (work : Work) (before now : FolderState) → WordsEnd told before (Ok work) now → OfTold told before.holds (λ run. PutsAll (IsReleased now.holds) run.acts)
 released (Err refusal) work before now ends = tt
-released (Ok chain) work before now ends =
+released (Ok (Generate size)) work before now ends = record { merged = ends.ends.merged; order = ends.ends.order; says = tt }
+released (Ok (Run chain)) work before now ends =
     of_chain chain before.holds (λ run. PutsAll (IsReleased now.holds) run.acts) (λ files is.
     let told = ends.ends files is in
     record {

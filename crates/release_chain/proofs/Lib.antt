@@ -1,13 +1,15 @@
+pub mod Answering
 pub mod Asked
 pub mod Chains
 pub mod Clauses
 pub mod CountLemmas
+pub mod Generating
 pub mod Held
 pub mod Loading
 pub mod Names
 pub mod Outputs
 pub mod Parts
+pub mod Reasonings
 pub mod Seeds
 pub mod StepLaws
 pub mod Turns
-pub mod Unbuilt

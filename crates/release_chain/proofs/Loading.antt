@@ -19,7 +19,7 @@ use Rattle.release_report.specs.declared.fault.Fault.{Fault}
 use Rattle.release_chain.specs.Answer.{AnswersAs}
 use Rattle.release_chain.specs.Ending.{Did, Ends, IsDone, StopsBy}
 use Rattle.release_chain.specs.Part.{Act, Opens, Part, answers}
-use Rattle.release_chain.specs.Run.{IsOrder, Trace, fault_of_load, load_part, merged_or, merged_trace, sources_of}
+use Rattle.release_chain.specs.Trace.{IsOrder, Trace, fault_of_load, load_part, merged_or, merged_trace, sources_of}
 use Rattle.release_chain.specs.declared.work.Work.{Work}
 use Rattle.release_chain.specs.inner.Finish.{LoadEnds}
 use Rattle.release_chain.specs.inner.Names.{put_names}

@@ -12,7 +12,8 @@ use Rattle.release_report.specs.declared.fault.Fault.TheVariants as fault
 use Rattle.release_chain.specs.Ending.{Caused, Counted, Ends, IsTold}
 use Rattle.release_chain.specs.Outputs.{Fits, Made, ReadsAgain, text_of}
 use Rattle.release_chain.specs.Part.{Part, answers, gives, puts, then_do}
-use Rattle.release_chain.specs.Run.{Trace, checked, fault_of_two, made_of, none_or, output_of, with_written, write_part}
+use Rattle.release_chain.specs.Trace.{Trace}
+use Rattle.release_chain.specs.Steps.{checked, fault_of_two, made_of, none_or, output_of, with_written, write_part}
 use Rattle.release_chain.specs.declared.work.Work.{Work}
 use Rattle.release_chain.specs.inner.Texts.{BlamesTwo, IsTextFor, NoTextFor, TextsOf}
 use Rattle.release_chain.specs.inner.Work.{IsAt}
@@ -56,11 +57,11 @@ put_fails file trace one before now free ends =
     (first_fails AnyUnit IsAt (puts (output_of file trace)) (λ _. gives (with_written file trace)) one before now ends)
 
 -- a refusal of two values has the cause of a refusal
-refused_two : (files : List (List ℕ)) (o : OntologyState) (check : Bool) (one : Fault) → BlamesTwo files o check one → none_or files (two_values o.name check o.entries) ≡ Err one
+pub refused_two : (files : List (List ℕ)) (o : OntologyState) (check : Bool) (one : Fault) → BlamesTwo files o check one → none_or files (two_values o.name check o.entries) ≡ Err one
 refused_two files o check one blames = ap (none_or files) blames.least ∙ ap (λ (f : Fault). Err f) (sym blames.same)
 
 -- a fault that the test answers is a refusal
-checked_refuses : (files : List (List ℕ)) (o : OntologyState) (check : Bool) (one : Fault) → none_or files (two_values o.name check o.entries) ≡ Err one → cause_of one ≡ Refused
+pub checked_refuses : (files : List (List ℕ)) (o : OntologyState) (check : Bool) (one : Fault) → none_or files (two_values o.name check o.entries) ≡ Err one → cause_of one ≡ Refused
 checked_refuses files o check one is = by_two (two_values o.name check o.entries) is
   where
     by_two : (two : Option TwoGiven) → none_or files two ≡ Err one → cause_of one ≡ Refused

@@ -7,7 +7,7 @@ use Rattle.release_report.specs.declared.fault.Fault.{Fault}
 use Rattle.release_chain.specs.Answer.{Answers, AnswersAs, FailsBy}
 use Rattle.release_chain.specs.Ending.{Caused, Counted, Did, Ends, IsDone, IsTold, StopsBy}
 use Rattle.release_chain.specs.Part.{Act, Opens, Output, Part, Puts, answers, then_by, then_do}
-use Rattle.release_chain.specs.Run.{Trace}
+use Rattle.release_chain.specs.Trace.{Trace}
 use Rattle.release_chain.specs.inner.Work.{IsAt}
 use Rattle.owl_axioms.specs.Names.{all_names}
 use Rattle.owl_ontology.specs.Ontology.{axioms_of}

@@ -10,7 +10,7 @@ use Rattle.release_report.specs.declared.fault.Fault.{Fault}
 use Rattle.seed_list.specs.Seed.{HasSeed, IsSeedOf, names_of}
 use Rattle.seed_list.specs.Terms.{iris_of}
 use Rattle.seed_list.specs.declared.seed.Seed.{Seed}
-use Rattle.release_chain.specs.Run.{seed_in, seed_of, seed_or}
+use Rattle.release_chain.specs.Steps.{seed_in, seed_of, seed_or}
 
 seed_is : (read : List (List ℕ)) (seed : Seed) → IsSeedOf read seed → seed_of read ≡ seed
 seed_is read seed is = λ i. record {

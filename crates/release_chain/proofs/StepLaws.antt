@@ -21,7 +21,8 @@ use Rattle.release_report.specs.declared.entry.Entry.TheVariants as entry
 use Rattle.seed_list.specs.declared.seed.Seed.{Seed}
 use Rattle.release_chain.specs.Counts.{counts_of}
 use Rattle.release_chain.specs.Ending.{SameAt, SameAtAll}
-use Rattle.release_chain.specs.Run.{Trace, extracted_entry, extracted_trace, reduced_trace, relaxed_trace}
+use Rattle.release_chain.specs.Trace.{Trace}
+use Rattle.release_chain.specs.Steps.{extracted_entry, extracted_trace, reduced_trace, relaxed_trace}
 use Rattle.release_chain.specs.declared.work.Work.{Work}
 use Rattle.release_chain.specs.inner.Work.{IsAt}
 

@@ -12,7 +12,8 @@ use Rattle.chain_words.specs.declared.command.Step.TheVariants.{Extract, Reason,
 use Rattle.release_report.specs.declared.fault.Fault.{Fault}
 use Rattle.release_chain.specs.Ending.{Ends, SameAt, SameAtAll}
 use Rattle.release_chain.specs.Part.{answers, reads, then_do}
-use Rattle.release_chain.specs.Run.{Trace, checked, extracted_or, output_part, seed_in, step_part, steps_part, turn_part}
+use Rattle.release_chain.specs.Trace.{Trace}
+use Rattle.release_chain.specs.Steps.{checked, extracted_or, output_part, seed_in, step_part, steps_part, turn_part}
 use Rattle.release_chain.specs.declared.work.Work.{Work}
 use Rattle.release_chain.specs.inner.Names.{AreApart, all_read, all_written, put_names}
 use Rattle.release_chain.specs.inner.Work.{HasForms, IsAt}

@@ -13,6 +13,11 @@ abbrev pub Answers : {A : Type 0} → Result A Fault → Result A Fault → Type
 Answers told (Ok value) = told ≡ Ok value
 Answers told (Err fault) = FailsBy (cause_of fault) told fault
 
+-- one answer, and then what comes of it; a refusal ends it
+abbrev pub then_answer : {A B : Type 0} → Result A Fault → (A → Result B Fault) → Result B Fault
+then_answer (Ok value) next = next value
+then_answer (Err fault) next = Err fault
+
 -- the same of a state that this value tells
 pub record IsAnswer {V A : Type 0} (Tells : V → A → Type 0) (told : Result A Fault) (value : V) : Type 0 where
   pub state : A

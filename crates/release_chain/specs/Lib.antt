@@ -1,9 +1,12 @@
 pub mod Answer
 pub mod Counts
 pub mod Ending
+pub mod Generated
 pub mod Outputs
 pub mod Part
 pub mod Release
 pub mod Run
+pub mod Steps
+pub mod Trace
 pub mod Status
 pub mod inner

@@ -9,7 +9,7 @@ use Rattle.rel_io.specs.Count.{Rose}
 use Rattle.rel_io.specs.FolderState.{Files, FolderState}
 use Rattle.rel_io.specs.Sink.{Appends, SinkState, WritesPart}
 use Rattle.chain_words.specs.Word.{Word}
-use Rattle.chain_words.specs.declared.command.Chain.{Chain}
+use Rattle.chain_words.specs.declared.command.Command.{Command}
 use Rattle.release_report.specs.Cause.{Cause, Words, Refused, Absent, NotRead, NotWritten, NotReported, RanOut, cause_of}
 use Rattle.release_report.specs.EntryText.{report_text}
 use Rattle.release_report.specs.FaultText.{fault_text}
@@ -18,7 +18,8 @@ use Rattle.release_report.specs.declared.fault.Fault.TheVariants.{NoMemory}
 use Rattle.release_chain.specs.Ending.{Did, IsCut, IsCutAtOpening, IsCutAtOutput}
 use Rattle.release_chain.specs.Outputs.{Fits}
 use Rattle.release_chain.specs.Part.{Act, Opens, Output, Part, Puts}
-use Rattle.release_chain.specs.Run.{OfRun, Trace, asked}
+use Rattle.release_chain.specs.Trace.{Trace}
+use Rattle.release_chain.specs.Run.{OfRun, asked}
 
 -- what stands outside the program
 pub record Outside : Type 0 where
@@ -90,7 +91,7 @@ Stops words before fault now = (one : Fault) → fault ≡ Some one → OfItsRun
 -- ---- when each comes
 
 -- wrong words are refused in every run, unless memory ran out; nothing else is called so; and nothing was touched
-pub record IsWordsRefused (told : Result Chain Fault) (before : Outside) (fault : Option Fault) (now : Outside) : Type 0 where
+pub record IsWordsRefused (told : Result Command Fault) (before : Outside) (fault : Option Fault) (now : Outside) : Type 0 where
   pub always : IfErr told (λ refusal. (fault ≡ Some refusal) ⊎ (fault ≡ Some NoMemory))
   pub only : (one : Fault) → fault ≡ Some one → cause_of one ≡ Words → told ≡ Err one
   pub untouched : IfErr told (λ _. now.folder ≡ before.folder)

@@ -1,7 +1,8 @@
 //! The steps that change axioms by themselves: relax and reduce.
 ghost use Rattle.std.specs.Prelude.{IfOk, Ok};
 ghost use Rattle.release_chain.specs.Answer.{AnswersAs};
-ghost use Rattle.release_chain.specs.Run.{Trace, reduced_trace, relaxed_trace};
+ghost use Rattle.release_chain.specs.Trace.{Trace};
+ghost use Rattle.release_chain.specs.Steps.{reduced_trace, relaxed_trace};
 ghost use Rattle.release_chain.specs.inner.Work.{HasForms, IsAt};
 
 use crate::work::{Work, noted};

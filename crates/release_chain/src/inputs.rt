@@ -7,7 +7,7 @@ ghost use Rattle.release_chain.specs.Answer.{AnswersAs};
 ghost use Rattle.release_chain.specs.Ending.{Caused};
 ghost use Rattle.import_closure.specs.Loading.{LoadsAs};
 ghost use Rattle.import_merge.specs.Notes.{IsLoaded};
-ghost use Rattle.release_chain.specs.Run.{dropped_entry, fault_of_load, merged_trace, read_entry, sources_of};
+ghost use Rattle.release_chain.specs.Trace.{dropped_entry, fault_of_load, merged_trace, read_entry, sources_of};
 ghost use Rattle.release_chain.specs.inner.Finish.{LoadEnds};
 ghost use Rattle.release_chain.specs.inner.Work.{HasForms, IsAt};
 ghost use Rattle.obo_mapping.specs.Back.{IsSpellable};

@@ -11,6 +11,8 @@ mod axioms;
 mod chain;
 mod counting;
 mod ended;
+mod generated;
+mod inference;
 mod inputs;
 mod modules;
 mod output;

@@ -7,7 +7,8 @@ ghost use Rattle.rel_io.specs.Limits as limits;
 ghost use Rattle.chain_words.specs.Setting.{method_word};
 ghost use Rattle.release_chain.specs.Answer.{Answers, AnswersAs};
 ghost use Rattle.release_chain.specs.Ending.{Caused, Ends, SameAt};
-ghost use Rattle.release_chain.specs.Run.{Trace, extract_part, extracted_trace, extracted_or, seed_in};
+ghost use Rattle.release_chain.specs.Trace.{Trace};
+ghost use Rattle.release_chain.specs.Steps.{extract_part, extracted_trace, extracted_or, seed_in};
 ghost use Rattle.release_chain.specs.inner.Work.{HasForms, IsAt};
 
 use crate::counting::counts_of;
@@ -42,7 +43,7 @@ pub fn extract_terms<F: Folder>(
 }
 
 /// Keeps what is shipped with the module of the terms in these bytes.
-fn extract_named(
+pub fn extract_named(
     alloc: Global,
     method: Method,
     terms: &Bytes,

@@ -12,8 +12,9 @@ ghost use Rattle.release_chain.specs.Answer.{AnswersAs};
 ghost use Rattle.release_chain.specs.Ending.{Caused, Ends};
 ghost use Rattle.release_chain.specs.Outputs.{Fits, Made, text_of};
 ghost use Rattle.release_chain.specs.Part.{puts};
-ghost use Rattle.release_chain.specs.Run as spec;
-ghost use Rattle.release_chain.specs.Run.{Trace, none_or, output_part, with_written, write_part};
+ghost use Rattle.release_chain.specs.Steps as spec;
+ghost use Rattle.release_chain.specs.Trace.{Trace};
+ghost use Rattle.release_chain.specs.Steps.{none_or, output_part, with_written, write_part};
 ghost use Rattle.release_chain.specs.inner.Work.{HasForms, IsAt};
 ghost use Rattle.release_chain.specs.inner.Texts.{TextAnswers, BlamesFiles, IsBackFault, TextsOf};
 
@@ -39,7 +40,7 @@ fn text_for(alloc: Global, work: &Work, file: &Output) -> Result<Bytes, Fault>
 }
 
 /// The OBO text of axioms, where the files have these names.
-fn obo_for(alloc: Global, ontology: &Ontology, files: &[Bytes], check: bool) -> Result<Bytes, Fault>
+pub fn obo_for(alloc: Global, ontology: &Ontology, files: &[Bytes], check: bool) -> Result<Bytes, Fault>
     requires forms { IsSpellable ontology.now.name (axioms_of ontology.now.entries) }
     ensures { TextsOf files.now ontology.now check result }
 {
@@ -102,7 +103,7 @@ fn both_files(
 }
 
 /// The name of the file to which an origin leads.
-fn file_at(alloc: Global, files: &[Bytes], origin: Origin) -> Result<Bytes, Fault>
+pub fn file_at(alloc: Global, files: &[Bytes], origin: Origin) -> Result<Bytes, Fault>
     ensures made { IfOk result (λ name. name ≡ spec.file_at files.now origin) }
     ensures memory { IfErr result (λ one. one ≡ fault.NoMemory) }
 {

@@ -1,64 +1,32 @@
 //! `release`: all that the program does.
-ghost use Rattle.std.specs.Prelude.{◌≡◌, ◌≢◌, ◌↔◌, ◌<◌, IsSome, length, map};
+ghost use Rattle.std.specs.Prelude.{◌≡◌, ◌≢◌, ◌↔◌, IsSome, map};
 ghost use Rattle.std.specs.String.{string_bytes};
 ghost use Rattle.release_chain.specs.Release.{Complete, Counts, ErrEnds, NothingElse, OutEnds, Released, Stops, WordsRefused, outside};
-ghost use Rattle.release_chain.specs.Run as spec;
-ghost use Rattle.release_chain.specs.Run.{asked, first_unbuilt};
+ghost use Rattle.release_chain.specs.Run.{asked};
 ghost use Rattle.release_chain.specs.Status.{status_of_ending};
-ghost use Rattle.release_chain.specs.inner.Finish.{Asks, Finishes, IsAsked, WordsEnd};
+ghost use Rattle.release_chain.specs.inner.Finish.{Asks, CommandEnds, Finishes, IsSound, WordsEnd};
 
 use crate::Ended;
 use crate::chain::run_chain;
+use crate::generated::run_generated;
 use crate::work::Work;
-use chain_words::{
-    Chain, Command, Output, Step, chains_are_well_formed, outputs_stand_apart, read_words,
-};
+use chain_words::{Command, outputs_stand_apart, read_words, sizes_are_bounded};
 use rel_io::{Folder, Sink};
 use release_report::{Fault, report_text, write_fault};
 use std::alloc::Global;
 
-/// Whether a step is supported.
-fn is_built(step: &Step) -> bool
-    ensures { result ≡ spec.is_built step.now }
-{
-    !matches!(step, Step::Reason)
-}
-
-/// The least step that is not supported yet; `merge` is step 0.
-fn first_unbuilt(turns: &[(Step, Option<Output>)]) -> Option<u32>
-    requires { length turns.now < 64 }
-    ensures { result ≡ first_unbuilt 1 turns.now }
-{
-    for index in 0..turns.len() {
-        if !is_built(&turns[index].0) {
-            return Some(index as u32 + 1);
-        }
-    }
-    None
-}
-
-/// The chain that the words ask for.
-fn ask(alloc: Global, words: &Vec<String>) -> Result<Chain, Fault>
+/// What the words ask for.
+fn ask(alloc: Global, words: &Vec<String>) -> Result<Command, Fault>
     ensures { Asks (asked (map string_bytes words.now.items)) result }
 {
     match read_words(alloc, words)? {
-        Command::Generate(_) => Err(Fault::StepNotBuilt { step: 0 }),
-        Command::Run(chain) => built(words, chain),
-    }
-}
-
-/// The chain, where all its steps are supported.
-fn built(words: &Vec<String>, chain: Chain) -> Result<Chain, Fault>
-    requires { IsAsked (map string_bytes words.now.items) chain }
-    ensures { Asks (asked (map string_bytes words.now.items)) result }
-{
-    outputs_stand_apart(words, &chain);
-    chains_are_well_formed(words, &chain);
-    match first_unbuilt(chain.steps.as_slice()) {
-        None => Ok(chain),
-        Some(step) => {
-            drop(chain);
-            Err(Fault::StepNotBuilt { step })
+        Command::Generate(size) => {
+            sizes_are_bounded(words, size);
+            Ok(Command::Generate(size))
+        }
+        Command::Run(chain) => {
+            outputs_stand_apart(words, &chain);
+            Ok(Command::Run(chain))
         }
     }
 }
@@ -67,8 +35,19 @@ fn built(words: &Vec<String>, chain: Chain) -> Result<Chain, Fault>
 fn run_words<F: Folder>(alloc: Global, words: &Vec<String>, folder: &mut F) -> Result<Work, Fault>
     ensures { WordsEnd (asked (map string_bytes words.now.items)) (F.state folder.old) result (F.state folder.new) }
 {
-    let chain = ask(alloc, words)?;
-    run_chain(alloc, folder, &chain)
+    let command = ask(alloc, words)?;
+    run_command(alloc, &command, folder)
+}
+
+/// Runs a command.
+fn run_command<F: Folder>(alloc: Global, command: &Command, folder: &mut F) -> Result<Work, Fault>
+    requires { IsSound command.now }
+    ensures { CommandEnds command.now (F.state folder.old) result (F.state folder.new) }
+{
+    match command {
+        Command::Generate(size) => run_generated(alloc, *size),
+        Command::Run(chain) => run_chain(alloc, folder, chain),
+    }
 }
 
 /// Runs what the words ask for, and reports it.

@@ -3,11 +3,13 @@ ghost use Rattle.std.specs.Prelude.{IfOk};
 ghost use Rattle.rel_io.specs.FolderState.{Files, NoCountFell};
 ghost use Rattle.chain_words.specs.Command.{reads_of};
 ghost use Rattle.release_chain.specs.Ending.{Caused, Ends, SameAtAll};
-ghost use Rattle.release_chain.specs.Run.{Trace, step_part, steps_part, turn_part};
+ghost use Rattle.release_chain.specs.Trace.{Trace};
+ghost use Rattle.release_chain.specs.Steps.{step_part, steps_part, turn_part};
 ghost use Rattle.release_chain.specs.inner.Names.{AreApart, all_read};
 ghost use Rattle.release_chain.specs.inner.Work.{HasForms, IsAt};
 
 use crate::axioms::{reduced, relaxed};
+use crate::inference::reasoned;
 use crate::modules::extract_terms;
 use crate::output::put_output;
 use crate::work::Work;
@@ -26,9 +28,10 @@ fn do_step<F: Folder>(alloc: Global, folder: &mut F, step: &Step, work: Work) ->
 {
     match step {
         Step::Extract { method, terms } => extract_terms(alloc, folder, *method, terms, work),
+        Step::Reason => reasoned(alloc, work),
         Step::Relax => relaxed(alloc, work),
         Step::Reduce { keep } => reduced(alloc, *keep, work),
-        Step::Reason | Step::Convert => Ok(work),
+        Step::Convert => Ok(work),
     }
 }
 

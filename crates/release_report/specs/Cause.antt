@@ -4,11 +4,11 @@ use Rattle.std.specs.Prelude.{ℕ, List}
 use Rattle.chain_words.specs.declared.fault.WordFault.{WordFault}
 use Rattle.chain_words.specs.declared.fault.WordFault.TheVariants as words
 use Rattle.release_report.specs.declared.fault.Fault.{Fault}
-use Rattle.release_report.specs.declared.fault.Fault.TheVariants.{BadWord, StepNotBuilt, MissingInput, MissingImport, TooManyFiles, TooManyBytes, NotUtf8, LineTooLong, Syntax, NoId, ShortGroup, CatalogLine, SeedLine, EmptySeed, TooManyFacts, Unsatisfiable, TwoValues, ReadFault, WriteFault, SinkFault, NoMemory}
+use Rattle.release_report.specs.declared.fault.Fault.TheVariants.{BadWord, MissingInput, MissingImport, TooManyFiles, TooManyBytes, NotUtf8, LineTooLong, Syntax, NoId, ShortGroup, CatalogLine, SeedLine, EmptySeed, TooManyFacts, Unsatisfiable, TwoValues, ReadFault, WriteFault, SinkFault, NoMemory}
 
 -- why a run ends before its end
 pub data Cause : Type 0 where
-  -- the arguments ask for nothing that is supported
+  -- the arguments ask for nothing
   Words : Cause
   -- a file or a step is refused
   Refused : Cause
@@ -26,7 +26,6 @@ pub data Cause : Type 0 where
 -- the cause of each fault
 abbrev pub cause_of : Fault → Cause
 cause_of (BadWord index kind) = Words
-cause_of (StepNotBuilt step) = Words
 cause_of (MissingInput name) = Absent
 cause_of (MissingImport file line value) = Absent
 cause_of (TooManyFiles limit) = Refused

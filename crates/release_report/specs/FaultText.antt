@@ -6,7 +6,7 @@ use Rattle.obo_clause.specs.declared.line.SyntaxKind.{SyntaxKind}
 use Rattle.obo_clause.specs.declared.line.SyntaxKind.TheVariants as syntax
 use Rattle.release_report.specs.Line.{line}
 use Rattle.release_report.specs.declared.fault.Fault.{Fault}
-use Rattle.release_report.specs.declared.fault.Fault.TheVariants.{BadWord, StepNotBuilt, MissingInput, MissingImport, TooManyFiles, TooManyBytes, NotUtf8, LineTooLong, Syntax, NoId, ShortGroup, CatalogLine, SeedLine, EmptySeed, TooManyFacts, Unsatisfiable, TwoValues, ReadFault, WriteFault, SinkFault, NoMemory}
+use Rattle.release_report.specs.declared.fault.Fault.TheVariants.{BadWord, MissingInput, MissingImport, TooManyFiles, TooManyBytes, NotUtf8, LineTooLong, Syntax, NoId, ShortGroup, CatalogLine, SeedLine, EmptySeed, TooManyFacts, Unsatisfiable, TwoValues, ReadFault, WriteFault, SinkFault, NoMemory}
 
 -- what is wrong with an argument
 abbrev pub word_text : WordKind → List ℕ
@@ -41,7 +41,6 @@ at_line file line_number what = file ∷ codes ":" ∷ decimal line_number ∷ c
 -- what is said of a fault, part by part
 abbrev pub said : Fault → List (List ℕ)
 said (BadWord index kind) = codes "word " ∷ decimal index ∷ codes ": " ∷ word_text kind ∷ []
-said (StepNotBuilt step) = codes "step " ∷ decimal step ∷ codes ": not built" ∷ []
 said (MissingInput name) = name ∷ codes ": missing" ∷ []
 said (MissingImport file line value) = at_line file line (codes "missing import " ∷ value ∷ [])
 said (TooManyFiles limit) = codes "more than " ∷ decimal limit ∷ codes " files" ∷ []

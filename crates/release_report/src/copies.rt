@@ -74,7 +74,6 @@ impl Dup for Fault {
                 index: *index,
                 kind: *kind,
             }),
-            Fault::StepNotBuilt { step } => Ok(Fault::StepNotBuilt { step: *step }),
             Fault::MissingInput { name } => name
                 .copy(alloc)
                 .map(|name| Fault::MissingInput { name }),

@@ -1,4 +1,4 @@
-//! The faults that end a run. `StepNotBuilt` is temporary: it goes when every step is built.
+//! The faults that end a run.
 ghost use Rattle.std.specs.Prelude.{◌≡◌};
 ghost use Rattle.release_report.specs.Cause.{fault_of_words};
 ghost use Rattle.release_report.specs.declared.fault.Fault.TheVariants as fault;
@@ -15,10 +15,6 @@ pub enum Fault {
     BadWord {
         index: u32,
         kind: WordKind,
-    },
-    /// The least step of the chain that is not supported yet; the first is step 0. (Temporary.)
-    StepNotBuilt {
-        step: u32,
     },
     /// A file that the arguments name is not there.
     MissingInput {

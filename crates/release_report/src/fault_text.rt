@@ -150,22 +150,6 @@ fn write_word<E: Sink>(index: u32, what: &[u8], err: &mut E) -> Result<(), SinkF
     )
 }
 
-/// Writes that a step is not supported yet.
-fn write_step<E: Sink>(step: u32, err: &mut E) -> Result<(), SinkFailed>
-    ensures writes { Writes (own_line (codes "step " ∷ decimal step ∷ codes ": not built" ∷ [])) (E.state err.old) result (E.state err.new) }
-    ensures counts { (E.state err.old).faults ≤ (E.state err.new).faults }
-{
-    write_line(
-        &[
-            Piece::Text(b"robot: "),
-            Piece::Text(b"step "),
-            Piece::Number(step as u64),
-            Piece::Text(b": not built"),
-        ],
-        err,
-    )
-}
-
 /// Writes that there are more bytes than a limit.
 fn write_too_many_bytes<E: Sink>(name: &Bytes, limit: u64, err: &mut E) -> Result<(), SinkFailed>
     ensures writes { Writes (own_line (name.now ∷ codes ": more than " ∷ decimal limit ∷ codes " bytes" ∷ [])) (E.state err.old) result (E.state err.new) }
@@ -215,7 +199,6 @@ pub fn write_fault<E: Sink>(fault: &Fault, err: &mut E) -> Result<(), SinkFailed
 {
     match fault {
         Fault::BadWord { index, kind } => write_word(*index, word_text(*kind), err),
-        Fault::StepNotBuilt { step } => write_step(*step, err),
         Fault::MissingInput { name } => write_named(name, b": missing", err),
         Fault::MissingImport { file, line, value } => write_told_at(
             file,

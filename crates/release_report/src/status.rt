@@ -10,7 +10,7 @@ pub fn status_of(fault: &Fault) -> u8
     ensures { result ≡ status_of fault.now }
 {
     match fault {
-        Fault::BadWord { .. } | Fault::StepNotBuilt { .. } => 2,
+        Fault::BadWord { .. } => 2,
         Fault::MissingInput { .. }
         | Fault::MissingImport { .. }
         | Fault::TooManyFiles { .. }

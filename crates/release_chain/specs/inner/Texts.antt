@@ -12,7 +12,8 @@ use Rattle.chain_words.specs.declared.command.Output.{Output as Wanted}
 use Rattle.release_report.specs.declared.fault.Fault.{Fault}
 use Rattle.release_report.specs.declared.fault.Fault.TheVariants as fault
 use Rattle.release_chain.specs.Outputs.{ReadsAgain, text_of}
-use Rattle.release_chain.specs.Run.{Trace, checked, fault_of_two, file_at}
+use Rattle.release_chain.specs.Trace.{Trace}
+use Rattle.release_chain.specs.Steps.{checked, fault_of_two, file_at}
 use Rattle.release_chain.specs.declared.work.Work.{Work}
 
 -- the names of the files to which two origins lead, or memory ran out

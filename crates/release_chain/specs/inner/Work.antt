@@ -3,7 +3,7 @@ use Rattle.std.specs.Prelude.{◌≡◌}
 use Rattle.owl_ontology.specs.Ontology.{axioms_of}
 use Rattle.owl_sem.specs.Models.{Keeps}
 use Rattle.obo_mapping.specs.Back.{IsSpellable}
-use Rattle.release_chain.specs.Run.{Trace}
+use Rattle.release_chain.specs.Trace.{Trace}
 use Rattle.release_chain.specs.declared.work.Work.{Work}
 
 -- the program's own state is of this

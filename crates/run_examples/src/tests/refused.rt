@@ -1,4 +1,4 @@
-//! Whole runs whose words are refused, or ask for a step that is not supported yet: nothing is read or written then.
+//! Whole runs whose words are refused: nothing is read or written then.
 use super::rows::ending_of;
 use document_examples::wrong_in;
 use rel_io::NoMemory;
@@ -25,9 +25,6 @@ merge --input a explode => 2; ; robot: word 3: unknown word|
 merge --input a --catalog c --catalog d => 2; ; robot: word 5: repeated|
 merge --input a reason*64 => 2; ; robot: word 66: too many|
 explode*1025 => 2; ; robot: word 1024: too many|
-generate 10 => 2; ; robot: step 0: not built|
-merge --input none reason => 2; ; robot: step 1: not built|
-merge --input a.obo relax reduce reason reason convert --output b.obo => 2; ; robot: step 3: not built|; b.obo missing
 merge --input a.obo reason merge => 2; ; robot: word 4: not here|"#;
 
 #[test]

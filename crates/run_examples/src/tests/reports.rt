@@ -23,7 +23,6 @@ BadWord 4294967295 BadValue => 2 robot: word 4294967295: bad value|
 BadWord 10 UnknownWord => 2 robot: word 10: unknown word|
 BadWord 9 OutputIsInput => 2 robot: word 9: output is input|
 BadWord 7 OutputTwice => 2 robot: word 7: output twice|
-StepNotBuilt 63 => 2 robot: step 63: not built|
 MissingInput edit.obo => 1 robot: edit.obo: missing|
 MissingInput a@20@b => 1 robot: a b: missing|
 MissingImport edit.obo 2 ro.obo => 1 robot: edit.obo:2: missing import ro.obo|
@@ -108,9 +107,6 @@ fn fault_of(alloc: Global, text: &str) -> Result<Fault, NoMemory> {
             index: small(text, 1),
             kind: word_kind(field(text, 2)),
         })),
-        "StepNotBuilt" => Ok(Fault::StepNotBuilt {
-            step: small(text, 1),
-        }),
         "TooManyFiles" => Ok(Fault::TooManyFiles {
             limit: small(text, 1),
         }),

@@ -41,3 +41,30 @@ fn edges_are_added_and_removed(rt: HostRuntime) -> Result<(), Fail> {
     assert_eq!(rt; wrong.as_str(), "");
     Ok(())
 }
+
+/// The edges that follow are added, or the first empty class is told.
+const REASONED: &str =
+    r#"- 9 - -; merge --input edit.obo reason relax reduce convert --output release.obo; edit.obo=ontology: ex||[Term]|id: EX:0000001|name: G||[Term]|id: EX:0000002|name: W|intersection_of: EX:0000001|intersection_of: part_of EX:0000005||[Term]|id: EX:0000003|name: X|is_a: EX:0000001|relationship: part_of EX:0000004||[Term]|id: EX:0000004|name: Y|relationship: part_of EX:0000005||[Term]|id: EX:0000005|name: Z||[Typedef]|id: part_of|is_transitive: true| => 0; read edit.obo: 6 frames, 0 clauses not translated|merge: 5 logical, 6 declarations, 5 notes|reason: 2 added, 0 not used|relax: 1 added|reduce: 1 removed|write release.obo: 456 bytes|; ; release.obo=format-version: 1.4|ontology: ex||[Term]|id: EX:0000001|name: G||[Term]|id: EX:0000002|name: W|is_a: EX:0000001 ! G|intersection_of: EX:0000001 ! G|intersection_of: part_of EX:0000005 ! Z|relationship: part_of EX:0000005 ! Z||[Term]|id: EX:0000003|name: X|is_a: EX:0000002 ! W|relationship: part_of EX:0000004 ! Y||[Term]|id: EX:0000004|name: Y|relationship: part_of EX:0000005 ! Z||[Term]|id: EX:0000005|name: Z||[Typedef]|id: part_of|is_transitive: true|
+- 9 - -; merge --input edit.obo reason --output r.obo; edit.obo=ontology: ex||[Term]|id: EX:0000001|name: G||[Term]|id: EX:0000002|name: W|intersection_of: EX:0000001|intersection_of: part_of EX:0000005||[Term]|id: EX:0000003|name: X|is_a: EX:0000001|relationship: part_of EX:0000004||[Term]|id: EX:0000004|name: Y|relationship: part_of EX:0000005||[Term]|id: EX:0000005|name: Z||[Typedef]|id: part_of|is_transitive: true| => 0; read edit.obo: 6 frames, 0 clauses not translated|merge: 5 logical, 6 declarations, 5 notes|reason: 2 added, 0 not used|write r.obo: 440 bytes|; ; r.obo=format-version: 1.4|ontology: ex||[Term]|id: EX:0000001|name: G||[Term]|id: EX:0000002|name: W|is_a: EX:0000001 ! G|intersection_of: EX:0000001 ! G|intersection_of: part_of EX:0000005 ! Z||[Term]|id: EX:0000003|name: X|is_a: EX:0000001 ! G|is_a: EX:0000002 ! W|relationship: part_of EX:0000004 ! Y||[Term]|id: EX:0000004|name: Y|relationship: part_of EX:0000005 ! Z||[Term]|id: EX:0000005|name: Z||[Typedef]|id: part_of|is_transitive: true|
+- 9 - -; merge --input a.obo --output m.obo reason --output r.obo; a.obo=ontology: ex||[Term]|id: EX:0000001|disjoint_from: EX:0000001| => 1; ; robot: a.obo:4: unsatisfiable <http://purl.obolibrary.org/obo/EX_0000001>|; m.obo=format-version: 1.4|ontology: ex||[Term]|id: EX:0000001|disjoint_from: EX:0000001|; r.obo missing
+- 9 - -; merge --input a.obo --input b.obo reason --output r.obo; a.obo=[Term]|id: EX:2|disjoint_from: EX:3|is_a: EX:3|[Term]|id: EX:3|; b.obo=[Term]|id: EX:1|is_a: EX:2| => 1; ; robot: b.obo:2: unsatisfiable <http://purl.obolibrary.org/obo/EX_1>|; r.obo missing"#;
+
+#[test]
+fn what_follows_is_added(rt: HostRuntime) -> Result<(), Fail> {
+    let wrong = wrong_in(rt.alloc(), REASONED, ending_of)?;
+    assert_eq!(rt; wrong.as_str(), "");
+    Ok(())
+}
+
+/// The steps of a release on generated ontologies. A file that is there is not touched.
+const GENERATED: &str =
+    r#"- 9 - -; generate 10; a.obo=x => 0; generate 10: 16 frames, 1008 bytes|merge: 15 logical, 16 declarations, 16 notes|extract STAR: 5 logical, 6 declarations, 6 notes, 0 unknown terms, 2 rounds|reason: 2 added, 0 not used|relax: 1 added|reduce: 1 removed|text: 567 bytes|; 
+- 9 - -; generate 20000; a.obo=x => 0; generate 20000: 28002 frames, 1828094 bytes|merge: 31999 logical, 28002 declarations, 28002 notes|extract STAR: 8001 logical, 10001 declarations, 10001 notes, 0 unknown terms, 2 rounds|reason: 4000 added, 0 not used|relax: 2000 added|reduce: 2000 removed|text: 952091 bytes|; 
+- 9 0 -; generate 10; a.obo=x => 3; ; robot: report: write fault|"#;
+
+#[test]
+fn generated_ontologies_are_released(rt: HostRuntime) -> Result<(), Fail> {
+    let wrong = wrong_in(rt.alloc(), GENERATED, ending_of)?;
+    assert_eq!(rt; wrong.as_str(), "");
+    Ok(())
+}

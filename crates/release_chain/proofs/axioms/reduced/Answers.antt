@@ -1,5 +1,5 @@
 use Rattle.std.proofs.Common.{refl}
-use Rattle.release_chain.specs.Run.{reduced_trace}
+use Rattle.release_chain.specs.Steps.{reduced_trace}
 use Rattle.release_chain.proofs.StepLaws.{reduced_is_at}
 use Rattle.release_chain.proofs.axioms.reduced.Goals as goal
 

@@ -1,5 +1,5 @@
 use Rattle.std.proofs.Common.{refl}
-use Rattle.release_chain.specs.Run.{relaxed_trace}
+use Rattle.release_chain.specs.Steps.{relaxed_trace}
 use Rattle.release_chain.proofs.StepLaws.{relaxed_is_at}
 use Rattle.release_chain.proofs.axioms.relaxed.Goals as goal
 

@@ -4,7 +4,7 @@ use Rattle.release_report.specs.declared.entry.Entry.TheVariants as entry
 use Rattle.owl_axioms.specs.Names.{all_names}
 use Rattle.owl_ontology.specs.Ontology.{axioms_of}
 use Rattle.owl_sem.proofs.Keeps.{keeping_is_reflexive}
-use Rattle.release_chain.specs.Run.{merged_trace}
+use Rattle.release_chain.specs.Trace.{merged_trace}
 use Rattle.release_chain.proofs.inputs.merged_work.Goals as goal
 
 pub returns-clause-answer : goal.returns-clause-answer

@@ -3,7 +3,7 @@ use Rattle.owl_ontology.specs.Ontology.{OntologyState}
 use Rattle.release_report.specs.declared.fault.Fault.{Fault}
 use Rattle.seed_list.specs.declared.seed.Seed.{Seed}
 use Rattle.release_chain.specs.Answer.{AnswersAs}
-use Rattle.release_chain.specs.Run.{extracted_or, seed_in}
+use Rattle.release_chain.specs.Steps.{extracted_or, seed_in}
 use Rattle.release_chain.specs.inner.Work.{IsAt}
 use Rattle.release_chain.proofs.modules.extract_named.Goals as goal
 

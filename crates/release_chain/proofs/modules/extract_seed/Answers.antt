@@ -4,7 +4,7 @@ use Rattle.owl_ontology.specs.Ontology.{OntologyState, axioms_of}
 use Rattle.owl_sem.specs.Models.{Keeps}
 use Rattle.release_report.specs.declared.entry.Entry.TheVariants as entry
 use Rattle.release_chain.specs.Counts.{counts_of}
-use Rattle.release_chain.specs.Run.{extracted_trace}
+use Rattle.release_chain.specs.Steps.{extracted_trace}
 use Rattle.release_chain.proofs.StepLaws.{extracted_is_at}
 use Rattle.release_chain.proofs.modules.extract_seed.Goals as goal
 

@@ -1,6 +1,6 @@
 use Rattle.std.proofs.Common.{ℕ, List, ◌≡◌, refl, sym}
 use Rattle.release_chain.specs.Part.{answers, reads}
-use Rattle.release_chain.specs.Run.{extracted_or, seed_in}
+use Rattle.release_chain.specs.Steps.{extracted_or, seed_in}
 use Rattle.release_chain.specs.inner.Work.{IsAt}
 use Rattle.release_chain.proofs.Parts.{answer_caused, answer_ends, some_trace, some_trace-is_at, then_ends}
 use Rattle.release_chain.proofs.modules.extract_terms.Goals as goal

@@ -1,7 +1,7 @@
 use Rattle.std.proofs.Common.{Ok, refl, sym, ap, subst, ◌∙◌, ◌≡◌}
 use Rattle.std.proofs.lemmas.Result.{err_from_is_err_and}
 use Rattle.release_chain.specs.Outputs.{text_of}
-use Rattle.release_chain.specs.Run.{made_of}
+use Rattle.release_chain.specs.Steps.{made_of}
 use Rattle.release_chain.specs.inner.Work.{IsAt}
 use Rattle.release_chain.proofs.Outputs.{caused_text, fits, put_ends, put_fails, text_fails, text_in}
 use Rattle.release_chain.proofs.Parts.{answer_caused, answer_ends, caused_later, some_trace, some_trace-is_at}

@@ -1,5 +1,5 @@
 use Rattle.std.proofs.lemmas.Result.{err_from_is_err_and}
-use Rattle.release_chain.specs.Run.{output_part, step_part}
+use Rattle.release_chain.specs.Steps.{output_part, step_part}
 use Rattle.release_chain.specs.inner.Work.{IsAt}
 use Rattle.release_chain.proofs.Parts.{first_fails, then_ends}
 use Rattle.release_chain.proofs.steps.do_turn.Goals as goal
