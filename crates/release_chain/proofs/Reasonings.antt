@@ -10,8 +10,8 @@ use Rattle.chain_words.specs.Word.{Name}
 use Rattle.el_taxonomy.specs.Reason.{IsRefused}
 use Rattle.el_taxonomy.specs.declared.fault.ReasonFault.{ReasonFault}
 use Rattle.el_taxonomy.specs.declared.fault.ReasonFault.TheVariants as reasons
-use Rattle.plain_reasoning.specs.Laws.{RefusingIsPlain}
-use Rattle.plain_reasoning.specs.Reasoning.{Reasoned, Reasoning, reason_of}
+use Rattle.plain_reasoning.specs.Laws.{ReasonOfIsTheAnswer}
+use Rattle.plain_reasoning.specs.Reason.{Reasoning, TooManyFacts, Unsatisfiable, reason_of}
 use Rattle.release_report.specs.Cause.{Cause, Refused, cause_of}
 use Rattle.release_report.specs.declared.entry.Entry.TheVariants as entry
 use Rattle.release_report.specs.declared.fault.Fault.{Fault}
@@ -42,19 +42,19 @@ no_memory told one is = subst (λ one. FailsBy (cause_of one) told one) (sym is)
 
 -- a refusal of the step is that of the run
 pub refusal_answers : (trace : Trace) (files : List Name) (before : OntologyState) (limit : ℕ) (reason : ReasonFault) (one : Fault)
-    → RefusingIsPlain → before ≡ trace.ontology → files ≡ trace.files → limit ≡ limits.facts → IsRefused before limit reason → IsRefusal files before reason one → FailsBy (cause_of one) (reasoned_or trace) one
+    → ReasonOfIsTheAnswer → before ≡ trace.ontology → files ≡ trace.files → limit ≡ limits.facts → IsRefused before limit reason → IsRefusal files before reason one → FailsBy (cause_of one) (reasoned_or trace) one
 refusal_answers trace files before limit (reasons.Unsatisfiable at) one plain is named bound refused told =
     ⊎_elim
     (no_memory (reasoned_or trace) one)
     (λ same.
     let empty = fault_of_empty files (slice_get before.entries at) in
     let answer : reasoned_or trace ≡ Err empty =
-        step_answers trace before limit _ is bound (plain before limit (reasons.Unsatisfiable at) refused) ∙ (λ i. Err (fault_of_empty (sym named i) (slice_get (sym is i).entries at))) in
+        step_answers trace before limit (Unsatisfiable at) is bound ((plain before limit (Unsatisfiable at)).0 refused) ∙ (λ i. Err (fault_of_empty (sym named i) (slice_get (sym is i).entries at))) in
     subst (λ one. FailsBy (cause_of one) (reasoned_or trace) one) (sym same)
     (subst (λ cause. FailsBy cause (reasoned_or trace) empty) (sym (empty_refused files (slice_get before.entries at))) answer))
     told
 refusal_answers trace files before limit (reasons.TooManyFacts n) one plain is named bound refused told =
-    subst (λ one. FailsBy (cause_of one) (reasoned_or trace) one) (sym told) (step_answers trace before limit _ is bound (plain before limit (reasons.TooManyFacts n) refused))
+    subst (λ one. FailsBy (cause_of one) (reasoned_or trace) one) (sym told) (step_answers trace before limit (TooManyFacts n) is bound ((plain before limit (TooManyFacts n)).0 refused))
 refusal_answers trace files before limit reasons.NoMemory one plain is named bound refused told = no_memory (reasoned_or trace) one told
 
 -- what is told of a place is what its entry tells

@@ -25,7 +25,7 @@ use Rattle.seed_list.specs.Terms.{iris_of}
 use Rattle.seed_list.specs.declared.seed.Seed.{Seed}
 use Rattle.extract_step.specs.Extract.{chosen, extracted}
 use Rattle.extract_step.specs.Known.{unknown_count}
-use Rattle.plain_reasoning.specs.Reasoning.{Reasoning, Reasoned, HasEmptyClass, HasTooManyFacts, reason_of}
+use Rattle.plain_reasoning.specs.Reason.{Reasoning, Reasoned, TooManyFacts, Unsatisfiable, reason_of}
 use Rattle.relax_axioms.specs.Relax.{relax_of}
 use Rattle.reduce_edges.specs.Reduce.{reduce_of}
 use Rattle.obo_mapping.specs.TwoValues.{TwoGiven, two_values}
@@ -90,8 +90,8 @@ reasoned_trace trace after count unused = record trace { ontology = after; entri
 
 abbrev pub reasoned_by : Trace → Reasoning → Result Trace Fault
 reasoned_by trace (Reasoned after count unused) = Ok (reasoned_trace trace after count unused)
-reasoned_by trace (HasEmptyClass at) = Err (fault_of_empty trace.files (slice_get trace.ontology.entries at))
-reasoned_by trace (HasTooManyFacts limit) = Err (fault.TooManyFacts limit)
+reasoned_by trace (Unsatisfiable at) = Err (fault_of_empty trace.files (slice_get trace.ontology.entries at))
+reasoned_by trace (TooManyFacts limit) = Err (fault.TooManyFacts limit)
 
 abbrev pub reasoned_or : Trace → Result Trace Fault
 reasoned_or trace = reasoned_by trace (reason_of trace.ontology limits.facts)

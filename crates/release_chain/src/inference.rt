@@ -12,10 +12,11 @@ use crate::work::{Work, noted};
 use el_taxonomy::{ReasonFault, reason};
 use owl_axioms::Body;
 use owl_ontology::Ontology;
-use plain_reasoning::{reasoning_is_plain, reasoning_keeps_spelling};
+use plain_reasoning::reason_of_is_the_answer;
 use rel_io::{Bytes, Dup, Iri, Limits, NoMemory};
 use release_report::{Entry, Fault};
 use std::alloc::Global;
+use step_spelling::reasoning_keeps_spelling;
 
 /// Adds the direct edges that follow and are missing.
 pub fn reasoned(alloc: Global, work: Work) -> Result<Work, Fault>
@@ -30,7 +31,7 @@ pub fn reasoned(alloc: Global, work: Work) -> Result<Work, Fault>
     } = work;
     let mut ontology = ontology;
     reasoning_keeps_spelling();
-    reasoning_is_plain();
+    reason_of_is_the_answer();
     match reason(alloc, &mut ontology, Limits::release().facts) {
         Ok(said) => {
             let entry = Entry::Reasoned {

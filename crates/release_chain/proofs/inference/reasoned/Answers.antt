@@ -1,6 +1,6 @@
 use Rattle.std.proofs.Common.{[], ◌∷◌, ◌++◌, ap, refl, sym, subst, ◌∙◌}
 use Rattle.rel_io.specs.declared.limits.Limits.{Limits}
-use Rattle.plain_reasoning.specs.Reasoning.{Reasoned}
+use Rattle.plain_reasoning.specs.Reason.{Reasoned}
 use Rattle.release_report.specs.declared.entry.Entry.TheVariants as entry
 use Rattle.release_chain.specs.Steps.{reasoned_trace}
 use Rattle.release_chain.proofs.Reasonings.{is_within, refusal_answers, step_answers}
@@ -14,7 +14,7 @@ returns-in-Ok-clause-answer c trace at =
     record {
       state = reasoned_trace trace after said.added said.unused;
       answered = step_answers trace c.args.work.ontology c.release.result.facts (Reasoned after said.added said.unused) at.ontology (ap (λ (l : Limits). l.facts) c.release.ensures)
-          (c.reasoning_is_plain.ensures.adding c.args.work.ontology after c.release.result.facts said.added said.unused c.in-Ok.ensures.reasoned);
+          ((c.reason_of_is_the_answer.ensures c.args.work.ontology c.release.result.facts (Reasoned after said.added said.unused)).0 c.in-Ok.ensures.reasoned);
       seen = changed_is_at c.args.work _ trace after (entry.Reasoned said.added said.unused) at refl refl c.in_ok-entries.ensures.made c.in-Ok.ensures.keeps;
     }
 
@@ -23,5 +23,5 @@ refused-refusal-requires c = is_within _ c.release.result.facts c.in-Err.fault (
 
 pub returns-in-Err-clause-answer : goal.returns-in-Err-clause-answer
 returns-in-Err-clause-answer c trace at =
-    refusal_answers trace c.args.work.files c.args.work.ontology c.release.result.facts c.in-Err.fault c.refused-refusal.result c.reasoning_is_plain.ensures.refusing at.ontology at.files (ap (λ (l : Limits). l.facts) c.release.ensures)
+    refusal_answers trace c.args.work.files c.args.work.ontology c.release.result.facts c.in-Err.fault c.refused-refusal.result c.reason_of_is_the_answer.ensures at.ontology at.files (ap (λ (l : Limits). l.facts) c.release.ensures)
     c.in-Err.ensures.refused c.refused-refusal.ensures
