@@ -1,9 +1,9 @@
 -- The numbers of classes.
-use Rattle.std.proofs.Common.{◌≡◌, ℕ, ◌<◌, zero, suc, List, [], ◌∷◌, Option, None, Some, get_or, length, map, slice_get, refl, sym, ap, subst, ◌∙◌, arith, MatchOption}
+use Rattle.std.proofs.Common.{◌≡◌, ℕ, ◌<◌, zero, suc, List, [], ◌∷◌, Option, None, Some, length, map, slice_get, refl, sym, ap, ◌∙◌, MatchOption, OnOk, Result, Ok, Err}
 use Rattle.std.specs.Option.{option_map}
-use Rattle.std.proofs.lemmas.Option.{get_or_from_slice_get, slice_get-map, slice_get_read, slice_get_within}
+use Rattle.std.proofs.lemmas.Option.{get_or_from_slice_get, slice_get-map, slice_get_within}
 use Rattle.fact_rows.specs.Member.{In}
-use Rattle.fact_rows.proofs.Places.{in_from_get, place_of}
+use Rattle.fact_rows.proofs.Places.{get_read, in_from_get, place_of}
 use Rattle.rel_io.proofs.Options.{none_there, same_there}
 use Rattle.owl_axioms.specs.Names.{name_of}
 use Rattle.owl_axioms.specs.declared.body.Body.{Body}
@@ -17,7 +17,7 @@ use Rattle.expr_pool.specs.Pool.{tree_at, tree_of}
 use Rattle.expr_pool.specs.declared.cell.Cell.{Cell}
 use Rattle.expr_pool.specs.declared.cell.Cell.TheVariants as cell
 use Rattle.expr_pool.specs.declared.cell.Node.{Node}
-use Rattle.el_part.specs.Part.{FitsPool, IsNodeOf, PartState, class_at}
+use Rattle.el_part.specs.Part.{IsNodeOf, PartState, class_at}
 use Rattle.el_saturate.specs.Table.{Facts}
 use Rattle.el_taxonomy.specs.inner.Numbers.{IsGround, IsNumberOf, both_of, class_in, class_name, declared_as, declared_in, exprs_of, told_in}
 use Rattle.reduce_edges.specs.Edges.{edge}
@@ -26,9 +26,13 @@ pub match_more : {X P R : Type 0} {Q S : X → Type 0} (o : Option X) → (P →
 match_more None f g h = f h
 match_more (Some x) f g h = g x h
 
+pub on_ok_both : {A E P Q R : Type 0} (r : Result A E) → (P → Q → R) → OnOk r P → OnOk r Q → OnOk r R
+on_ok_both (Ok x) f p q = f p q
+on_ok_both (Err x) f p q = tt
+
 -- ---- expressions and nodes
 
-from_map_at : {A B : Type 0} (f : A → B) (xs : List A) (k : ℕ) (y : B) → slice_get (map f xs) k ≡ Some y → (x : A) × (slice_get xs k ≡ Some x) × (f x ≡ y)
+pub from_map_at : {A B : Type 0} (f : A → B) (xs : List A) (k : ℕ) (y : B) → slice_get (map f xs) k ≡ Some y → (x : A) × (slice_get xs k ≡ Some x) × (f x ≡ y)
 from_map_at f [] k y h = absurd (none_there h)
 from_map_at f (x ∷ xs) zero y h = (x, refl, same_there h)
 from_map_at f (x ∷ xs) (suc k) y h = from_map_at f xs k y h
@@ -39,11 +43,11 @@ expr_there trees part k n h = slice_get-map (tree_at trees) part.occurring k ∙
 pub node_there : (trees : List ClassExpr) (part : PartState) (k : ℕ) (c : ClassExpr) → slice_get (exprs_of trees part) k ≡ Some c → (n : Node) × (slice_get part.occurring k ≡ Some n) × (tree_at trees n ≡ c)
 node_there trees part k c h = from_map_at (tree_at trees) part.occurring k c h
 
-tree_there : (trees : List ClassExpr) (n : Node) (c : ClassExpr) → IsNodeOf trees n c → tree_at trees n ≡ c
+pub tree_there : (trees : List ClassExpr) (n : Node) (c : ClassExpr) → IsNodeOf trees n c → tree_at trees n ≡ c
 tree_there trees n c h = get_or_from_slice_get trees n.place c expr.Thing h
 
 pub there_tree : (trees : List ClassExpr) (n : Node) → n.place < length trees → IsNodeOf trees n (tree_at trees n)
-there_tree trees n low = slice_get_read trees (length trees) n.place (tree_at trees n) refl low (let h : tree_at trees n ≡ tree_at trees n = refl in h)
+there_tree trees n low = get_read trees n.place expr.Thing low
 
 -- ---- numbers
 
@@ -90,7 +94,7 @@ tree_class trees (cell.Min n role part) class h = absurd (none_there h)
 tree_class trees (cell.Max n role part) class h = absurd (none_there h)
 tree_class trees (cell.Exact n role part) class h = absurd (none_there h)
 
-named_class : (class : List ℕ) → class_name (expr.Class class) ≡ Some class
+pub named_class : (class : List ℕ) → class_name (expr.Class class) ≡ Some class
 unfolding class_name
 named_class class = refl
 
@@ -130,7 +134,7 @@ pub is_declared : (said : Body) (class : List ℕ) → said ≡ body.Declaration
 unfolding declared_in
 is_declared said class h = ap declared_in h
 
-name_is : (c : ClassExpr) (class : List ℕ) → class_name c ≡ Some class → c ≡ expr.Class class
+pub name_is : (c : ClassExpr) (class : List ℕ) → class_name c ≡ Some class → c ≡ expr.Class class
 unfolding class_name
 name_is (expr.Class iri) class h = ap expr.Class (same_there h)
 name_is c class h = absurd (none_there h)
