@@ -1,0 +1,52 @@
+-- Lists and tests.
+use Rattle.std.proofs.Common.{◌≡◌, ◌⊎◌, ℕ, zero, suc, ◌≤◌, ◌<◌, Bool, true, false, not, ◌&&◌, List, [], ◌∷◌, filter, length, inl, inr, ⊎_elim, refl, sym, ap, subst, ◌∙◌, true≢false, arith, cond}
+use Rattle.std.specs.List.{list_all, list_any}
+use Rattle.fact_rows.specs.Member.{In, NoRepeats, here, more, none, there}
+use Rattle.fact_rows.proofs.Members.{and_parts, by_bool, from_filter, in_cons, in_filter, in_none}
+
+-- ---- tests of all items
+
+pub all_from : {A : Type 0} (test : A → Bool) (xs : List A) → ((x : A) → In x xs → test x ≡ true) → list_all test xs ≡ true
+all_from test [] h = refl
+all_from test (x ∷ xs) h = let first = h x here in let rest = all_from test xs (λ y i. h y (there i)) in λ j. first j && rest j
+
+pub each_of : {A : Type 0} (test : A → Bool) {x : A} {xs : List A} → list_all test xs ≡ true → In x xs → test x ≡ true
+each_of test h (here {xs}) = (and_parts _ _ h).0
+each_of test h (there {y} {xs} i) = each_of test (and_parts (test y) (list_all test xs) h).1 i
+
+-- ---- what a weaker test leaves
+
+-- it leaves as much, and then the same, or more
+module _ {A : Type 0} (p q : A → Bool) (weaker : (x : A) → p x ≡ true → q x ≡ true) where
+  abbrev Grows : List A → List A → Type 0
+  Grows fewer many = (fewer ≡ many) ⊎ (length fewer < length many)
+
+  pub grows : (xs : List A) → Grows (filter p xs) (filter q xs)
+  grows [] = inl refl
+  grows (x ∷ xs) = by (p x) (q x) refl refl
+    where
+      by : (s t : Bool) → p x ≡ s → q x ≡ t → Grows (cond s (x ∷ filter p xs) (filter p xs)) (cond t (x ∷ filter q xs) (filter q xs))
+      by true true e f = ⊎_elim (λ is. inl (ap (λ rest. x ∷ rest) is)) (λ less. inr (omega (arith, less))) (grows xs)
+      by true false e f = absurd (true≢false (sym (weaker x e) ∙ f))
+      by false true e f = ⊎_elim (λ is. inr (let long = ap length is in omega (arith, long))) (λ less. inr (omega (arith, less))) (grows xs)
+      by false false e f = grows xs
+
+pub filter_short : {A : Type 0} (p : A → Bool) (xs : List A) → length (filter p xs) ≤ length xs
+filter_short p [] = omega arith
+filter_short p (x ∷ xs) = by (p x)
+  where
+    by : (s : Bool) → length (cond s (x ∷ filter p xs) (filter p xs)) ≤ length (x ∷ xs)
+    by true = omega (arith, filter_short p xs)
+    by false = omega (arith, filter_short p xs)
+
+pub filter_none : {A : Type 0} (xs : List A) → filter (λ (x : A). false) xs ≡ []
+filter_none [] = refl
+filter_none (x ∷ xs) = filter_none xs
+
+-- ---- without repeats
+
+pub filter_once : {A : Type 0} (p : A → Bool) {xs : List A} → NoRepeats xs → NoRepeats (filter p xs)
+filter_once p none = none
+filter_once p (more {x} {xs} n r) = by_bool (p x)
+    (λ e. rw e (more (λ i. n (from_filter p xs i).0) (filter_once p r)))
+    (λ e. rw e (filter_once p r))
