@@ -1,2 +1,5 @@
+pub mod Facts
 pub mod Lists
 pub mod Occurring
+pub mod SameParts
+pub mod Uses

@@ -21,23 +21,23 @@ module _ {A : Type 0} (p q : A → Bool) (weaker : (x : A) → p x ≡ true → 
   abbrev Grows : List A → List A → Type 0
   Grows fewer many = (fewer ≡ many) ⊎ (length fewer < length many)
 
-  pub grows : (xs : List A) → Grows (filter p xs) (filter q xs)
+  one_more : (x : A) (fewer many : List A) (s t : Bool) → p x ≡ s → q x ≡ t → Grows fewer many → Grows (cond s (x ∷ fewer) fewer) (cond t (x ∷ many) many)
+  one_more x fewer many true true e f grown = ⊎_elim (λ is. inl (ap (λ rest. x ∷ rest) is)) (λ less. inr (omega (arith, less))) grown
+  one_more x fewer many true false e f grown = absurd (true≢false (sym (weaker x e) ∙ f))
+  one_more x fewer many false true e f grown = ⊎_elim (λ is. inr (let long = ap length is in omega (arith, long))) (λ less. inr (omega (arith, less))) grown
+  one_more x fewer many false false e f grown = grown
+
+  pub grows : (xs : List A) → (filter p xs ≡ filter q xs) ⊎ (length (filter p xs) < length (filter q xs))
   grows [] = inl refl
-  grows (x ∷ xs) = by (p x) (q x) refl refl
-    where
-      by : (s t : Bool) → p x ≡ s → q x ≡ t → Grows (cond s (x ∷ filter p xs) (filter p xs)) (cond t (x ∷ filter q xs) (filter q xs))
-      by true true e f = ⊎_elim (λ is. inl (ap (λ rest. x ∷ rest) is)) (λ less. inr (omega (arith, less))) (grows xs)
-      by true false e f = absurd (true≢false (sym (weaker x e) ∙ f))
-      by false true e f = ⊎_elim (λ is. inr (let long = ap length is in omega (arith, long))) (λ less. inr (omega (arith, less))) (grows xs)
-      by false false e f = grows xs
+  grows (x ∷ xs) = one_more x (filter p xs) (filter q xs) (p x) (q x) refl refl (grows xs)
 
 pub filter_short : {A : Type 0} (p : A → Bool) (xs : List A) → length (filter p xs) ≤ length xs
 filter_short p [] = omega arith
-filter_short p (x ∷ xs) = by (p x)
+filter_short p (x ∷ xs) = by (p x) (filter_short p xs)
   where
-    by : (s : Bool) → length (cond s (x ∷ filter p xs) (filter p xs)) ≤ length (x ∷ xs)
-    by true = omega (arith, filter_short p xs)
-    by false = omega (arith, filter_short p xs)
+    by : (s : Bool) → length (filter p xs) ≤ length xs → length (cond s (x ∷ filter p xs) (filter p xs)) ≤ length (x ∷ xs)
+    by true less = omega (arith, less)
+    by false less = omega (arith, less)
 
 pub filter_none : {A : Type 0} (xs : List A) → filter (λ (x : A). false) xs ≡ []
 filter_none [] = refl
