@@ -2,6 +2,10 @@ pub mod Adding
 pub mod Bridge
 pub mod Entailed
 pub mod Flags
+pub mod Found
+pub mod Least
+pub mod Naming
 pub mod Numbers
+pub mod Occurring
 pub mod Outcomes
 pub mod Proper

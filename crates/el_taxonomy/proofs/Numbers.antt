@@ -28,7 +28,7 @@ match_more (Some x) f g h = g x h
 
 -- ---- expressions and nodes
 
-from_map_at : {A B : Type 0} (f : A → B) (xs : List A) (k : ℕ) (y : B) → slice_get (map f xs) k ≡ Some y → (x : A) × (slice_get xs k ≡ Some x) × (f x ≡ y)
+pub from_map_at : {A B : Type 0} (f : A → B) (xs : List A) (k : ℕ) (y : B) → slice_get (map f xs) k ≡ Some y → (x : A) × (slice_get xs k ≡ Some x) × (f x ≡ y)
 from_map_at f [] k y h = absurd (none_there h)
 from_map_at f (x ∷ xs) zero y h = (x, refl, same_there h)
 from_map_at f (x ∷ xs) (suc k) y h = from_map_at f xs k y h
@@ -39,7 +39,7 @@ expr_there trees part k n h = slice_get-map (tree_at trees) part.occurring k ∙
 pub node_there : (trees : List ClassExpr) (part : PartState) (k : ℕ) (c : ClassExpr) → slice_get (exprs_of trees part) k ≡ Some c → (n : Node) × (slice_get part.occurring k ≡ Some n) × (tree_at trees n ≡ c)
 node_there trees part k c h = from_map_at (tree_at trees) part.occurring k c h
 
-tree_there : (trees : List ClassExpr) (n : Node) (c : ClassExpr) → IsNodeOf trees n c → tree_at trees n ≡ c
+pub tree_there : (trees : List ClassExpr) (n : Node) (c : ClassExpr) → IsNodeOf trees n c → tree_at trees n ≡ c
 tree_there trees n c h = get_or_from_slice_get trees n.place c expr.Thing h
 
 pub there_tree : (trees : List ClassExpr) (n : Node) → n.place < length trees → IsNodeOf trees n (tree_at trees n)
@@ -90,7 +90,7 @@ tree_class trees (cell.Min n role part) class h = absurd (none_there h)
 tree_class trees (cell.Max n role part) class h = absurd (none_there h)
 tree_class trees (cell.Exact n role part) class h = absurd (none_there h)
 
-named_class : (class : List ℕ) → class_name (expr.Class class) ≡ Some class
+pub named_class : (class : List ℕ) → class_name (expr.Class class) ≡ Some class
 unfolding class_name
 named_class class = refl
 
@@ -130,7 +130,7 @@ pub is_declared : (said : Body) (class : List ℕ) → said ≡ body.Declaration
 unfolding declared_in
 is_declared said class h = ap declared_in h
 
-name_is : (c : ClassExpr) (class : List ℕ) → class_name c ≡ Some class → c ≡ expr.Class class
+pub name_is : (c : ClassExpr) (class : List ℕ) → class_name c ≡ Some class → c ≡ expr.Class class
 unfolding class_name
 name_is (expr.Class iri) class h = ap expr.Class (same_there h)
 name_is c class h = absurd (none_there h)

@@ -1,2 +1,4 @@
 pub mod Adding
+pub mod Least
+pub mod Named
 pub mod Numbers

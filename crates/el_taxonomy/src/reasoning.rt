@@ -1,14 +1,13 @@
 //! Reasoning: what is missing is found in the table of derived facts, and then added to a copy.
-ghost use Rattle.std.specs.Prelude.{◌≡◌, ◌||◌, IfErr, IfOk, List, OnErr, OnOk, ℕ};
-ghost use Rattle.indexmap.specs.IndexSet.{contains};
+ghost use Rattle.std.specs.Prelude.{◌≡◌, ◌∷◌, [], IfErr, IfOk, List, OnErr, OnOk, ℕ};
+ghost use Rattle.indexmap.specs.IndexSet.{insert_all};
 ghost use Rattle.el_part.specs.Part.{view_of};
 ghost use Rattle.el_taxonomy.specs.Direct.{AreFactsOf};
 ghost use Rattle.el_taxonomy.specs.Reason.{Infers, IsRefused, Reasons};
 ghost use Rattle.el_taxonomy.specs.Taxonomy.{IsDeclaredClass, IsEmpty};
-ghost use Rattle.el_taxonomy.specs.inner.Adding.{IsJudged, is_listed, told_as};
+ghost use Rattle.el_taxonomy.specs.inner.Adding.{IsJudged, said_of, said_of_all, told_as};
 ghost use Rattle.owl_ontology.specs.Ontology.{axioms_of};
 ghost use Rattle.owl_sem.specs.Laws.{KeepBoth};
-ghost use Rattle.reduce_edges.specs.Edges.{edge};
 ghost use Rattle.relax_axioms.specs.Implied.{same_body};
 
 use crate::direct::direct_edges;
@@ -115,20 +114,20 @@ fn with_edges(
     })
 }
 
-/// The inclusions that edges stand for.
+/// The inclusions that edges stand for, in their order.
 fn inclusions(alloc: Global, edges: &[Edge]) -> Result<IndexSet<Body>, NoMemory>
-    ensures { IfOk result (λ bodies. (b : Body) → contains same_body bodies b ≡ is_listed edges.now b) }
+    ensures { IfOk result (λ bodies. bodies.keys ≡ said_of_all edges.now) }
 {
     let mut bodies = IndexSet::new(alloc);
-    for at in 0..edges.len() {
-        push_inclusion(alloc, &mut bodies, &edges[at])?;
+    for one in edges {
+        push_inclusion(alloc, &mut bodies, one)?;
     }
     Ok(bodies)
 }
 
 /// Adds the inclusion that an edge stands for.
 fn push_inclusion(alloc: Global, bodies: &mut IndexSet<Body>, one: &Edge) -> Result<(), NoMemory>
-    ensures { OnOk result ((b : Body) → contains same_body bodies.new b ≡ (contains same_body bodies.old b || same_body (edge one.now.sub one.now.sup) b)) }
+    ensures { OnOk result (bodies.new.keys ≡ insert_all same_body bodies.old.keys (said_of one.now ∷ [])) }
 {
     let sub = one.sub.copy(alloc)?;
     let sup = one.sup.copy(alloc)?;

@@ -1,10 +1,11 @@
 //! The first declared class that nothing can be in.
-ghost use Rattle.std.specs.Prelude.{ℕ, ◌≡◌, ◌<◌, ◌+◌, ◌↔◌, IfSome, IsTrue, List, MatchOption, Some, length, slice_get};
+ghost use Rattle.std.specs.Prelude.{ℕ, ◌≡◌, ◌<◌, ◌+◌, ◌↔◌, IsTrue, MatchOption, None, if◌then◌else◌, length};
 ghost use Rattle.el_part.specs.Part.{view_of};
-ghost use Rattle.el_saturate.specs.Table.{SaysBelow};
 ghost use Rattle.el_taxonomy.specs.Direct.{AreFactsOf};
 ghost use Rattle.el_taxonomy.specs.Reason.{IsUnsatisfiable};
 ghost use Rattle.el_taxonomy.specs.Taxonomy.{IsDeclaredClass, IsEmpty};
+ghost use Rattle.el_taxonomy.specs.inner.Least.{Declared, DeclaresEmpty, IsDeclaredAt, IsEmptyAt, IsEmptyClass, IsEmptyNode, IsFound, is_lesser};
+ghost use Rattle.el_taxonomy.specs.inner.Numbers.{declared_in};
 ghost use Rattle.owl_ontology.specs.Ontology.{axioms_of};
 
 use crate::numbering::declared_class;
@@ -12,7 +13,8 @@ use el_part::ElPart;
 use el_saturate::Table;
 use expr_pool::{Node, Pool};
 use owl_axioms::Body;
-use owl_ontology::Ontology;
+use owl_ontology::{Ontology, Origin};
+use rel_io::Iri;
 
 /// The place of the first declaration of the least declared class, by the bytes of its IRI, of which it is derived that
 /// nothing is in it; none where there is no such class. The part and the table are those of the ontology, over the pool.
@@ -44,8 +46,8 @@ fn least(
 ) -> Option<usize>
     requires two { 1 < length part.now.occurring }
     requires within { at < length ontology.now.entries }
-    requires before { IfSome found (λ before. before < at) }
-    ensures { IfSome result (λ before. before < at + 1) }
+    requires before { IsFound ontology.now.entries part.now table.now at found }
+    ensures { IsFound ontology.now.entries part.now table.now (at + 1) result }
 {
     if !declares_empty(part, table, &ontology.get(at).body) {
         return found;
@@ -59,20 +61,29 @@ fn least(
 /// Whether an axiom declares a class that nothing can be in.
 fn declares_empty(part: &ElPart, table: &Table, body: &Body) -> bool
     requires { 1 < length part.now.occurring }
+    ensures { IsTrue result ↔ DeclaresEmpty part.now table.now (declared_in body.now) }
 {
     match declared_class(body) {
         None => false,
-        Some(class) => match part.class_node(class) {
-            None => false,
-            Some(node) => is_empty(part, table, node),
-        },
+        Some(class) => is_empty_class(part, table, class),
+    }
+}
+
+/// Whether nothing can be in a class.
+fn is_empty_class(part: &ElPart, table: &Table, class: &Iri) -> bool
+    requires { 1 < length part.now.occurring }
+    ensures { IsTrue result ↔ IsEmptyClass part.now table.now class.now }
+{
+    match part.class_node(class) {
+        None => false,
+        Some(node) => is_empty(part, table, node),
     }
 }
 
 /// Whether a node is below that of owl:Nothing, which is the second.
 fn is_empty(part: &ElPart, table: &Table, node: Node) -> bool
     requires { 1 < length part.now.occurring }
-    ensures { (nothing : Node) → slice_get part.now.occurring 1 ≡ Some nothing → IsTrue result ↔ SaysBelow table.now node nothing }
+    ensures { IsTrue result ↔ IsEmptyNode part.now table.now node }
 {
     table.below(node, part.occurs(1))
 }
@@ -81,7 +92,7 @@ fn is_empty(part: &ElPart, table: &Table, node: Node) -> bool
 fn lesser(ontology: &Ontology, before: usize, at: usize) -> usize
     requires within { at < length ontology.now.entries }
     requires before { before < at }
-    ensures { result < at + 1 }
+    ensures { (one other : Declared) → IsDeclaredAt ontology.now.entries at one → IsDeclaredAt ontology.now.entries before other → result ≡ (if is_lesser one other then at else before) }
 {
     if is_less(ontology, at, before) {
         at
@@ -94,14 +105,20 @@ fn lesser(ontology: &Ontology, before: usize, at: usize) -> usize
 fn is_less(ontology: &Ontology, at: usize, before: usize) -> bool
     requires within { at < length ontology.now.entries }
     requires before { before < length ontology.now.entries }
+    ensures { (one other : Declared) → IsDeclaredAt ontology.now.entries at one → IsDeclaredAt ontology.now.entries before other → result ≡ is_lesser one other }
 {
-    match (
-        declared_class(&ontology.get(at).body),
-        declared_class(&ontology.get(before).body),
-    ) {
-        (Some(one), Some(other)) => {
-            one < other || (one == other && ontology.origin(at) < ontology.origin(before))
-        }
-        _ => false,
+    match declared_class(&ontology.get(at).body) {
+        None => false,
+        Some(one) => match declared_class(&ontology.get(before).body) {
+            None => false,
+            Some(other) => is_before(one, ontology.origin(at), other, ontology.origin(before)),
+        },
     }
+}
+
+/// Whether a class with an origin is less than another with its own.
+fn is_before(one: &Iri, here: Origin, other: &Iri, there: Origin) -> bool
+    ensures { result ≡ is_lesser (record { class = one.now; origin = here }) (record { class = other.now; origin = there }) }
+{
+    one.cmp(other).then(here.cmp(&there)).is_lt()
 }

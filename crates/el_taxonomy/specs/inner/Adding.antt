@@ -1,6 +1,6 @@
 -- The inclusions of edges as they are added, and refusals on the way. (Own.)
-use Rattle.std.specs.Prelude.{ℕ, Bool, List}
-use Rattle.std.specs.List.{list_any}
+use Rattle.std.specs.Prelude.{List, [], map}
+use Rattle.indexmap.specs.IndexSet.{insert_all}
 use Rattle.owl_axioms.specs.declared.body.Body.{Body}
 use Rattle.owl_ontology.specs.Ontology.{Entry}
 use Rattle.el_rules.specs.Rules.{ElView}
@@ -13,9 +13,13 @@ use Rattle.el_taxonomy.specs.declared.fault.ReasonFault.TheVariants as fault
 use Rattle.reduce_edges.specs.Edges.{edge}
 use Rattle.relax_axioms.specs.Implied.{same_body}
 
--- some edge stands for the inclusion
-abbrev pub is_listed : List Edge → Body → Bool
-is_listed edges b = list_any (λ (e : Edge). same_body (edge e.sub e.sup) b) edges
+-- the inclusion that an edge stands for
+abbrev pub said_of : Edge → Body
+said_of e = edge e.sub e.sup
+
+-- those of edges, put into a set in their order
+abbrev pub said_of_all : List Edge → List Body
+said_of_all edges = insert_all same_body [] (map said_of edges)
 
 -- the fault that one of the table stands for
 abbrev pub told_as : SatFault → ReasonFault
