@@ -2,7 +2,7 @@
 use Rattle.std.proofs.Common.{◌≡◌, ◌⊎◌, ℕ, zero, suc, ◌≤◌, ◌<◌, Bool, true, false, not, ◌&&◌, List, [], ◌∷◌, filter, length, inl, inr, ⊎_elim, refl, sym, ap, subst, ◌∙◌, true≢false, arith, cond}
 use Rattle.std.specs.List.{list_all, list_any}
 use Rattle.fact_rows.specs.Member.{In, NoRepeats, here, more, none, there}
-use Rattle.fact_rows.proofs.Members.{and_parts, by_bool, from_filter, in_cons, in_filter, in_none}
+use Rattle.fact_rows.proofs.Members.{and_parts, by_bool, from_filter, or_true}
 
 -- ---- tests of all items
 
@@ -50,3 +50,20 @@ filter_once p none = none
 filter_once p (more {x} {xs} n r) = by_bool (p x)
     (λ e. rw e (more (λ i. n (from_filter p xs i).0) (filter_once p r)))
     (λ e. rw e (filter_once p r))
+
+-- ---- tests of some item
+
+pub any_from : {A : Type 0} (test : A → Bool) {x : A} {xs : List A} → In x xs → test x ≡ true → list_any test xs ≡ true
+any_from test (here {xs}) t = rw t refl
+any_from test (there {y} {xs} i) t = rw (any_from test i t) (or_true (test y))
+
+pub record FromSome {A : Type 0} (test : A → Bool) (xs : List A) : Type 0 where
+  pub it : A
+  pub inside : In it xs
+  pub passes : test it ≡ true
+
+pub from_some : {A : Type 0} (test : A → Bool) (xs : List A) → list_any test xs ≡ true → FromSome test xs
+from_some test [] h = absurd (true≢false (sym h))
+from_some test (x ∷ xs) h = by_bool (test x)
+    (λ e. record { it = x; inside = here; passes = e })
+    (λ e. let r = from_some test xs (rw e at h) in record { it = r.it; inside = there r.inside; passes = r.passes })

@@ -23,6 +23,7 @@ use Rattle.expr_pool.specs.Part.{layer_parts, parts_of}
 use Rattle.el_rules.specs.ElPart.{el_axioms}
 use Rattle.el_rules.specs.Occurs.{IsDeclared, Occurs, declared, exprs_in, nothing, part as a_part, standing, thing}
 use Rattle.el_rules.specs.Rules.{IsElPartOf}
+use Rattle.el_taxonomy.specs.Taxonomy.{IsDeclaredClass}
 use Rattle.plain_reasoning.specs.Laws.{ViewIsElPart}
 use Rattle.plain_reasoning.specs.Occurring.{class_declared, class_of, declared_classes, inside_of, inside_step, is_other_class, occurring_of, outermost_of, parts_in, view_of_axioms, with_inside}
 
@@ -123,12 +124,12 @@ class_is kind.Role a b i = in_none i
 class_is kind.Individual a b i = in_none i
 class_is kind.AnnotationProperty a b i = in_none i
 
-class_declared_is : (b : Body) (a : List ℕ) → In a (class_declared b) → b ≡ body.Declaration (name_of kind.Class a)
+pub class_declared_is : (b : Body) (a : List ℕ) → In a (class_declared b) → b ≡ body.Declaration (name_of kind.Class a)
 unfolding class_declared
 class_declared_is (body.Declaration name) a i = let c = class_is name.kind name.iri a i in λ j. body.Declaration (record { kind = c.0 j; iri = c.1 j })
 class_declared_is other a i = in_none i
 
-is_class_declared : (a : List ℕ) → In a (class_declared (body.Declaration (name_of kind.Class a)))
+pub is_class_declared : (a : List ℕ) → In a (class_declared (body.Declaration (name_of kind.Class a)))
 unfolding class_declared
 is_class_declared a = here
 
@@ -156,12 +157,7 @@ is_other a t n = both (bytes_eq a owl_thing) (bytes_eq a owl_nothing) (λ h. t (
     both false true p q = absurd (q refl)
     both false false p q = refl
 
-pub record IsDeclaredIn (axioms : List Axiom) (a : List ℕ) : Type 0 where
-  pub declared : IsDeclared axioms a
-  pub no_thing : ¬ (a ≡ owl_thing)
-  pub no_nothing : ¬ (a ≡ owl_nothing)
-
-pub from_declared : (axioms : List Axiom) (a : List ℕ) → In a (declared_classes axioms) → IsDeclaredIn axioms a
+pub from_declared : (axioms : List Axiom) (a : List ℕ) → In a (declared_classes axioms) → IsDeclaredClass axioms a
 unfolding declared_classes
 from_declared axioms a i =
     let f = from_filter is_other_class (flat_map (λ (x : Axiom). class_declared x.body) axioms) i in
@@ -196,7 +192,7 @@ part_there : (axioms : List Axiom) (c p : ClassExpr) → In c (occurring_of axio
 unfolding occurring_of
 part_there axioms c p i k = let r = from_flat_map with_inside (outermost_of axioms) i in in_flat_map with_inside r.inside (there (inside_closed r.it c p r.out k))
 
-occurs_there : (axioms : List Axiom) {c : ClassExpr} → Occurs axioms c → In c (occurring_of axioms)
+pub occurs_there : (axioms : List Axiom) {c : ClassExpr} → Occurs axioms c → In c (occurring_of axioms)
 unfolding outermost_of
 occurs_there axioms thing = in_outermost axioms expr.Thing here
 occurs_there axioms nothing = in_outermost axioms expr.Nothing (there here)
