@@ -1,3 +1,5 @@
+pub mod Answers
+pub mod Declarations
 pub mod Edges
 pub mod Facts
 pub mod Lists
@@ -5,4 +7,5 @@ pub mod Occurring
 pub mod Rising
 pub mod SameParts
 pub mod Told
+pub mod Unsatisfiable
 pub mod Uses
