@@ -1,27 +1,29 @@
 -- The answer of the plain function is the one right answer.
-use Rattle.std.proofs.Common.{◌≡◌, ◌⊎◌, ℕ, ◌≤◌, ◌<◌, Bool, true, false, if◌then◌else◌, cond, List, [], ◌∷◌, ◌++◌, Option, None, Some, length, map, nat_lt, inl, inr, ⊎_elim, refl, sym, ap, subst, ◌∙◌, true≢false, arith}
+use Rattle.std.proofs.Common.{◌≡◌, ◌⊎◌, ℕ, ◌≤◌, ◌<◌, Bool, true, false, if◌then◌else◌, cond, List, [], ◌∷◌, ◌++◌, Option, None, Some, length, map, nat_lt, inl, inr, ⊎_elim, refl, sym, ap, subst, ◌∙◌, true≢false, arith, Contains}
 use Rattle.std.proofs.lemmas.Bool.Decides.{nat_tests}
 use Rattle.fact_rows.specs.Member.{In, NoRepeats}
-use Rattle.fact_rows.proofs.Members.{by_bool}
+use Rattle.fact_rows.proofs.Members.{contains_from_in, from_map, in_from_contains, in_map}
 use Rattle.fact_rows.proofs.Repeats.{fits}
 use Rattle.owl_axioms.specs.declared.body.Axiom.{Axiom}
 use Rattle.owl_ontology.specs.Ontology.{OntologyState, axioms_of}
 use Rattle.el_rules.specs.ElPart.{unused_of}
 use Rattle.el_rules.specs.Rules.{Derived, ElFact, ElView, IsElPartOf}
 use Rattle.el_saturate.specs.Table.{AreMore, IsNumberOfFacts}
-use Rattle.el_taxonomy.specs.Direct.{AreDirectEdges}
-use Rattle.el_taxonomy.specs.Reason.{HasTooMany, Infers, IsReasoned, IsRefused, IsRefusedAt, Reasons, inclusion_of}
+use Rattle.el_taxonomy.specs.Direct.{AreDirectEdges, edge_of}
+use Rattle.el_taxonomy.specs.Reason.{HasTooMany, Infers, IsInferred, IsReasoned, IsRefused, IsRefusedAt, Reasons, inclusion_of}
 use Rattle.el_taxonomy.specs.declared.edge.Edge.{Edge}
 use Rattle.relax_axioms.specs.Relax.{step_entries}
 use Rattle.plain_reasoning.specs.Edges.{edges_of, facts_in}
 use Rattle.plain_reasoning.specs.Facts.{facts_of}
-use Rattle.plain_reasoning.specs.Laws.{AnswersAreReasonOf, IsAnswer}
+use Rattle.plain_reasoning.specs.Laws.{AnswersAreReasonOf, IsAnswer, ReasonOfIsAnswer}
 use Rattle.plain_reasoning.specs.Occurring.{view_of_axioms}
 use Rattle.plain_reasoning.specs.Reason.{Reasoned, Reasoning, TooManyFacts, Unsatisfiable, reason_at, reason_of, with_edges}
 use Rattle.plain_reasoning.specs.Unsatisfiable.{unsatisfiable_of}
-use Rattle.plain_reasoning.proofs.Edges.{direct_edges_are_one}
+use Rattle.plain_reasoning.proofs.Edges.{direct_edges_are_one, edges_are_direct}
 use Rattle.plain_reasoning.proofs.Facts.{facts_are_derived}
-use Rattle.plain_reasoning.proofs.Unsatisfiable.{none_refused, refused_at}
+use Rattle.plain_reasoning.proofs.Occurring.{view_is_el_part}
+use Rattle.plain_reasoning.proofs.Rising.{follow_rising, inclusions_apart}
+use Rattle.plain_reasoning.proofs.Unsatisfiable.{at_refused, none_refused, refused_at, refused_none}
 
 -- ---- how many facts there are
 
@@ -101,5 +103,77 @@ module _ (before : OntologyState) (limit : ℕ) where
   answer_is (TooManyFacts n) r =
       when_many (more axioms r.1.view r.1.part limit r.1.more) ∙ ap TooManyFacts (sym r.0)
 
+  -- ---- and the answer is right
+
+  abbrev view : ElView
+  view = view_of_axioms axioms
+
+  of : IsElPartOf axioms view
+  of = view_is_el_part axioms
+
+  number : IsNumberOfFacts view (length (facts_in axioms))
+  number = record { facts = facts_in axioms; once = facts_once axioms view of; derived = λ f. (in_fact axioms view of f, fact_in axioms view of f); are = refl }
+
+  reasoned : length (facts_in axioms) ≤ limit → IsReasoned axioms limit view
+  reasoned few = record { part = of; count = length (facts_in axioms); facts = number; few = few }
+
+  inferred_there : (a : Axiom) → IsInferred axioms view a → Contains (map inclusion_of (edges_of axioms)) a
+  inferred_there a one =
+      let e = edge_of one.sub one.super in
+      let inside = ((edges_are_direct axioms view of).exactly one.sub one.super).1 one.direct in
+      contains_from_in (subst (λ b. In b (map inclusion_of (edges_of axioms))) (sym one.is) (in_map inclusion_of (in_from_contains (edges_of axioms) e inside)))
+
+  there_inferred : (a : Axiom) → Contains (map inclusion_of (edges_of axioms)) a → IsInferred axioms view a
+  there_inferred a there =
+      let r = from_map inclusion_of (edges_of axioms) (in_from_contains (map inclusion_of (edges_of axioms)) a there) in
+      record {
+        sub = r.it.sub;
+        super = r.it.sup;
+        direct = ((edges_are_direct axioms view of).exactly r.it.sub r.it.sup).0 (contains_from_in r.inside);
+        is = r.is;
+      }
+
+  infers : Infers view before (with_edges before (edges_of axioms)) (length (edges_of axioms))
+  unfolding with_edges
+  infers = record {
+    edges = edges_of axioms;
+    are = edges_are_direct axioms view of;
+    added = map inclusion_of (edges_of axioms);
+    added_are = refl;
+    name = refl;
+    entries = refl;
+    exactly = λ a. (there_inferred a, inferred_there a);
+    once = inclusions_apart (edges_of axioms) (follow_rising (edges_of axioms) (edges_are_direct axioms view of).sorted);
+    counted = sym (length_mapped (edges_of axioms));
+  }
+
+  answered : (o : Option ℕ) → unsatisfiable_of before.entries ≡ o → length (facts_in axioms) ≤ limit → IsAnswer before limit (reason_at before o)
+  answered None h few = record {
+    view = view;
+    reasoned = reasoned few;
+    satisfiable = refused_none before.entries view of h;
+    infers = infers;
+    left_out = refl;
+  }
+  answered (Some at) h few = record { view = view; reasoned = reasoned few; place = at_refused before.entries view of at h }
+
+  many_answered : limit < length (facts_in axioms) → IsAnswer before limit (TooManyFacts limit)
+  many_answered many = (
+    refl,
+    record { view = view; part = of; more = record { facts = facts_in axioms; once = facts_once axioms view of; derived = in_fact axioms view of; more = many } },
+  )
+
+  is_answer : IsAnswer before limit (reason_of before limit)
+  is_answer = ⊎_elim
+      (λ (many : limit < length (facts_in axioms)). subst (IsAnswer before limit) (sym (when_many many)) (many_answered many))
+      (λ few. subst (IsAnswer before limit) (sym (when_few few)) (answered (unsatisfiable_of before.entries) refl few))
+      (either limit (length (facts_in axioms)))
+    where
+      either : (m n : ℕ) → (m < n) ⊎ (n ≤ m)
+      either m n = grind arith
+
 pub answers_are_reason_of : AnswersAreReasonOf
 answers_are_reason_of = answer_is
+
+pub reason_of_is_answer : ReasonOfIsAnswer
+reason_of_is_answer = is_answer

@@ -1,14 +1,20 @@
 -- Lists of edges that rise, and what stands at their places.
-use Rattle.std.proofs.Common.{◌≡◌, ◌⊎◌, ℕ, zero, suc, ◌<◌, Bool, true, false, List, [], ◌∷◌, Some, None, slice_get, inl, inr, refl, sym, ap, subst, ◌∙◌, true≢false, arith}
+use Rattle.std.proofs.Common.{◌≡◌, ◌⊎◌, ℕ, zero, suc, ◌<◌, Bool, true, false, List, [], ◌∷◌, Some, None, map, slice_get, inl, inr, refl, sym, ap, subst, ◌∙◌, true≢false, arith}
 use Rattle.std.specs.Cmp.{then_total, on_total}
 use Rattle.std.specs.Cmp.Lexicographic.{nat_list_cmp_total, slice_cmp}
 use Rattle.std.specs.FinMap.{nat_cmp-IsAntisymmetric, slice_cmp-IsAntisymmetric}
 use Rattle.std.specs.Ordering.{is_lt, nat_cmp, ordering_then}
 use Rattle.std.specs.declared.cmp.Ordering.{Ordering}
 use Rattle.std.specs.declared.cmp.Ordering.TheVariants.{Equal, Greater, Less}
-use Rattle.text_sets.specs.Sets.{In}
+use Rattle.std.specs.List.{AllByRecursion, IsDistinct}
+use Rattle.text_sets.proofs.KeyLemmas.{never_below_itself}
 use Rattle.text_sets.specs.Sorted.{IsBelowOn, IsKeyOrder, RisesOn}
+use Rattle.owl_axioms.proofs.Same.{same_axiom-true}
+use Rattle.owl_axioms.specs.Same.{same_axiom}
+use Rattle.owl_axioms.specs.declared.body.Axiom.{Axiom}
+use Rattle.reduce_edges.specs.Edges.{Pair, class_name, edge, edge_in}
 use Rattle.el_taxonomy.specs.Direct.{comes_first}
+use Rattle.el_taxonomy.specs.Reason.{inclusion_of}
 use Rattle.el_taxonomy.specs.declared.edge.Edge.{Edge}
 use Rattle.plain_reasoning.specs.Edges.{edge_cmp}
 
@@ -71,3 +77,34 @@ follow_rising (e ∷ edges) follow = (
   at_below e edges (λ j other h. follow zero (suc j) e other refl h (omega arith)),
   follow_rising edges (λ i j one other h k less. follow (suc i) (suc j) one other h k (omega (arith, less))),
 )
+
+-- ---- the inclusions of rising edges are all different
+
+edge_said : (a b : List ℕ) → let p : Pair = (a, b) in edge_in (edge a b) ≡ Some p
+unfolding edge_in class_name
+edge_said a b = refl
+
+same_pair : (p q : Pair) → Some p ≡ Some q → p ≡ q
+same_pair p q h = cc
+
+same_edge : (e f : Edge) → inclusion_of e ≡ inclusion_of f → e ≡ f
+same_edge e f is =
+    let p : Pair = (e.sub, e.sup) in let q : Pair = (f.sub, f.sup) in
+    let same : p ≡ q = same_pair p q (sym (edge_said e.sub e.sup) ∙ ap (λ (a : Axiom). edge_in a.body) is ∙ edge_said f.sub f.sup) in
+    λ i. record { sub = (same i).0; sup = (same i).1 }
+
+less_apart : (e f : Edge) → edge_cmp e f ≡ Less → same_axiom (inclusion_of e) (inclusion_of f) ≡ false
+less_apart e f less = is_false (same_axiom (inclusion_of e) (inclusion_of f)) (λ h. never_below_itself edge_cmp edge_order self e f (same_edge e f (same_axiom-true (inclusion_of e) (inclusion_of f) h)) less)
+  where
+    is_false : (x : Bool) → (x ≡ true → ⊥) → x ≡ false
+    is_false true h = absurd (h refl)
+    is_false false h = refl
+
+apart_below : (e : Edge) (edges : List Edge) → IsBelowOn edge_cmp self e edges → AllByRecursion (λ a. same_axiom (inclusion_of e) a ≡ false) (map inclusion_of edges)
+apart_below e [] below = tt
+apart_below e (f ∷ edges) below = (less_apart e f below.0, apart_below e edges below.1)
+
+pub inclusions_apart : (edges : List Edge) → RisesOn edge_cmp self edges → IsDistinct same_axiom (map inclusion_of edges)
+unfolding IsDistinct
+inclusions_apart [] rises = tt
+inclusions_apart (e ∷ edges) rises = (apart_below e edges rises.0, inclusions_apart edges rises.1)
