@@ -1,20 +1,18 @@
 -- The answer of the plain function is the one right answer.
-use Rattle.std.proofs.Common.{◌≡◌, ◌⊎◌, ℕ, ◌≤◌, ◌<◌, Bool, true, false, if◌then◌else◌, cond, List, [], ◌∷◌, ◌++◌, Option, None, Some, length, map, nat_lt, inl, inr, ⊎_elim, refl, sym, ap, subst, ◌∙◌, true≢false, arith, Contains}
+use Rattle.std.proofs.Common.{◌≡◌, ◌⊎◌, ℕ, ◌≤◌, ◌<◌, true, false, cond, List, [], ◌∷◌, ◌++◌, Option, None, Some, length, map, nat_lt, ⊎_elim, refl, sym, ap, subst, ◌∙◌, arith, Contains}
 use Rattle.std.proofs.lemmas.Bool.Decides.{nat_tests}
 use Rattle.fact_rows.specs.Member.{In, NoRepeats}
 use Rattle.fact_rows.proofs.Members.{contains_from_in, from_map, in_from_contains, in_map}
 use Rattle.fact_rows.proofs.Repeats.{fits}
 use Rattle.owl_axioms.specs.declared.body.Axiom.{Axiom}
 use Rattle.owl_ontology.specs.Ontology.{OntologyState, axioms_of}
-use Rattle.el_rules.specs.ElPart.{unused_of}
 use Rattle.el_rules.specs.Rules.{Derived, ElFact, ElView, IsElPartOf}
 use Rattle.el_saturate.specs.Table.{AreMore, IsNumberOfFacts}
-use Rattle.el_taxonomy.specs.Direct.{AreDirectEdges, edge_of}
-use Rattle.el_taxonomy.specs.Reason.{HasTooMany, Infers, IsInferred, IsReasoned, IsRefused, IsRefusedAt, Reasons, inclusion_of}
+use Rattle.el_taxonomy.specs.Direct.{edge_of}
+use Rattle.el_taxonomy.specs.Reason.{Infers, IsInferred, IsReasoned, inclusion_of}
 use Rattle.el_taxonomy.specs.declared.edge.Edge.{Edge}
 use Rattle.relax_axioms.specs.Relax.{step_entries}
 use Rattle.plain_reasoning.specs.Edges.{edges_of, facts_in}
-use Rattle.plain_reasoning.specs.Facts.{facts_of}
 use Rattle.plain_reasoning.specs.Laws.{AnswersAreReasonOf, IsAnswer, ReasonOfIsAnswer}
 use Rattle.plain_reasoning.specs.Occurring.{view_of_axioms}
 use Rattle.plain_reasoning.specs.Reason.{Reasoned, Reasoning, TooManyFacts, Unsatisfiable, reason_at, reason_of, with_edges}

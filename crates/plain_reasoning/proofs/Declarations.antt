@@ -1,12 +1,12 @@
 -- The first declaration of a class, by origins and then by places.
-use Rattle.std.proofs.Common.{◌≡◌, ◌⊎◌, ℕ, zero, suc, ◌≤◌, Bool, true, false, not, ◌&&◌, if◌then◌else◌, cond, List, [], ◌∷◌, Option, None, Some, slice_get, inl, inr, ⊎_elim, refl, sym, ap, subst, ◌∙◌, true≢false, arith}
+use Rattle.std.proofs.Common.{◌≡◌, ◌⊎◌, ℕ, zero, suc, ◌≤◌, Bool, true, false, not, ◌&&◌, cond, List, [], ◌∷◌, Option, None, Some, slice_get, inl, inr, ⊎_elim, refl, sym, ap, subst, ◌∙◌, true≢false, arith}
 use Rattle.std.specs.List.{list_any}
 use Rattle.std.specs.Option.{option_map}
 use Rattle.std.specs.Str.{bytes_eq}
 use Rattle.std.proofs.lemmas.Bool.Decides.{nat_tests}
 use Rattle.fact_rows.specs.Member.{In, here, there}
 use Rattle.fact_rows.proofs.Members.{and_parts, by_bool, in_cons, in_none}
-use Rattle.fact_rows.proofs.Places.{HasPlace, in_from_get, place_of}
+use Rattle.fact_rows.proofs.Places.{in_from_get, place_of}
 use Rattle.owl_axioms.specs.Names.{name_of}
 use Rattle.owl_axioms.specs.declared.body.Body.TheVariants as body
 use Rattle.owl_axioms.specs.declared.name.Kind.TheVariants as kind
@@ -19,7 +19,7 @@ use Rattle.plain_reasoning.specs.Occurring.{class_declared}
 use Rattle.plain_reasoning.specs.Unsatisfiable.{declares, first_place, is_first}
 use Rattle.plain_reasoning.proofs.Lists.{any_from, from_some}
 use Rattle.plain_reasoning.proofs.Occurring.{class_declared_is, is_class_declared}
-use Rattle.plain_reasoning.proofs.Told.{is_not, not_true, own_name, same_name}
+use Rattle.plain_reasoning.proofs.Told.{is_false, is_not, not_true, own_name, same_name}
 
 -- ---- the order of origins
 
@@ -125,10 +125,6 @@ passes_first entries class entry h =
       p.0,
       λ other i d. is_false (comes_before other.origin entry.origin) (λ b. not_true (list_any before entries) p.1 (any_from before i (λ j. d j && b j))),
     )
-  where
-    is_false : (x : Bool) → (x ≡ true → ⊥) → x ≡ false
-    is_false true h = absurd (h refl)
-    is_false false h = refl
 
 -- what is declared at a place
 at_place : (entries : List Entry) (class : List ℕ) (i : ℕ) (other : Entry) → DeclaresAt entries class i other → In other entries × (declares class other ≡ true)
@@ -146,10 +142,6 @@ found_first entries class at f =
     let high : at ≤ h.at = f.place h.at h.place.it (record { found = h.place.found; says = says_declared class h.place.it q.0 }) same in
     let one : h.at ≡ at = omega (arith, low, high) in
     h.is ∙ ap Some one
-  where
-    is_false : (x : Bool) → (x ≡ true → ⊥) → x ≡ false
-    is_false true h = absurd (h refl)
-    is_false false h = refl
 
 -- and the one that is found is the first declaration
 pub first_found : (entries : List Entry) (class : List ℕ) (at : ℕ) → first_place (is_first entries class) entries ≡ Some at → IsFirstDeclaration entries class at
@@ -166,7 +158,7 @@ first_found entries class at h =
           declares = record { found = p.found; says = says_declared class p.it q.0 };
           first = λ i other d before. let o = at_place entries class i other d in true≢false (sym before ∙ q.1 other o.0 o.1);
           place = λ i other d same. let o = at_place entries class i other d in
-            p.first i other d.found (first_passes entries class other o.1 (λ third k e. subst (λ origin. comes_before third.origin origin ≡ false) (sym same) (q.1 third k e)));
+              p.first i other d.found (first_passes entries class other o.1 (λ third k e. subst (λ origin. comes_before third.origin origin ≡ false) (sym same) (q.1 third k e)));
         }
 
 -- ---- there is one, where the class is declared

@@ -1,19 +1,19 @@
 -- The plain edges are the direct edges that are not stated, and there is no other list of them.
-use Rattle.std.proofs.Common.{◌≡◌, ◌⊎◌, ◌↔◌, ℕ, Bool, true, false, not, ◌&&◌, ◌||◌, List, [], ◌∷◌, Contains, filter, flat_map, map, inl, inr, ⊎_elim, refl, sym, ap, subst, ◌∙◌, true≢false}
+use Rattle.std.proofs.Common.{◌≡◌, ℕ, Bool, true, false, not, ◌&&◌, ◌||◌, List, Contains, filter, map, refl, sym, ap, subst, ◌∙◌, true≢false}
 use Rattle.std.specs.List.{list_any}
 use Rattle.std.specs.Str.{bytes_eq}
 use Rattle.fact_rows.specs.Member.{In}
-use Rattle.fact_rows.proofs.Members.{and_parts, by_bool, contains_from_in, from_filter, from_flat_map, from_map, in_filter, in_flat_map, in_from_contains, in_map}
+use Rattle.fact_rows.proofs.Members.{and_parts, contains_from_in, from_filter, from_flat_map, from_map, in_filter, in_flat_map, in_from_contains, in_map}
 use Rattle.text_sets.proofs.KeyLemmas.{RisesOn-sorted_on, same_risingOn, sorted_on-each, sorted_on-only}
 use Rattle.text_sets.proofs.SetLemmas.{In-from_contains, contains-from_In}
 use Rattle.text_sets.specs.Sorted.{sorted_on}
 use Rattle.owl_axioms.specs.declared.body.Axiom.{Axiom}
 use Rattle.owl_axioms.specs.declared.expr.ClassExpr.TheVariants as expr
-use Rattle.reduce_edges.specs.Edges.{IsEdge, edge}
+use Rattle.reduce_edges.specs.Edges.{edge}
 use Rattle.relax_axioms.specs.Implied.{is_said}
 use Rattle.el_rules.specs.Rules.{ElView, IsBelow, IsElPartOf}
-use Rattle.el_taxonomy.specs.Direct.{AreDirectEdges, edge_of}
-use Rattle.el_taxonomy.specs.Taxonomy.{AreBelow, IsDeclaredClass, IsDirectEdge, IsStrictlyBetween}
+use Rattle.el_taxonomy.specs.Direct.{edge_of}
+use Rattle.el_taxonomy.specs.Taxonomy.{AreBelow, IsDirectEdge, IsStrictlyBetween}
 use Rattle.el_taxonomy.specs.declared.edge.Edge.{Edge}
 use Rattle.plain_reasoning.specs.Edges.{classes_in, edge_cmp, edges_of, facts_in, is_between, is_direct, pairs_in, says_below}
 use Rattle.plain_reasoning.specs.Laws.{DirectEdgesAreOne, EdgesAreDirect}
@@ -58,6 +58,7 @@ module _ (axioms : List Axiom) (view : ElView) (of : IsElPartOf axioms view) whe
     where
       first : (x y : Bool) → not (x || y) ≡ true → x ≡ true → ⊥
       first x y h e = true≢false (sym h ∙ ap (λ z. not (z || y)) e)
+
       second : (x y : Bool) → not (x || y) ≡ true → y ≡ true → ⊥
       second true y h e = true≢false (sym h)
       second false y h e = true≢false (sym h ∙ ap not e)
@@ -77,7 +78,7 @@ module _ (axioms : List Axiom) (view : ElView) (of : IsElPartOf axioms view) whe
         below = told_below e.sub e.sup up.1;
         unsaid = λ said. not_true (is_said axioms (edge e.sub e.sup)) rest.0 (edge_said axioms e.sub e.sup said);
         none = λ between b. not_true (list_any (is_between facts e.sub e.sup) (classes_in axioms)) rest.1
-          (any_from (is_between facts e.sub e.sup) (above_occurs axioms view of e.sub between b.low) (between_told e.sub e.sup between b));
+            (any_from (is_between facts e.sub e.sup) (above_occurs axioms view of e.sub between b.low) (between_told e.sub e.sup between b));
       }
 
   direct_told : (e : Edge) → IsDirectEdge axioms view e.sub e.sup → is_direct axioms e ≡ true

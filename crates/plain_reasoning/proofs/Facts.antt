@@ -1,7 +1,6 @@
 -- What is known in the end is what is derived.
-use Rattle.std.proofs.Common.{◌≡◌, ◌⊎◌, ℕ, zero, suc, ◌+◌, ◌≤◌, ◌<◌, Bool, true, false, not, ◌&&◌, List, [], ◌∷◌, filter, length, map, inl, inr, ⊎_elim, refl, sym, ap, subst, ◌∙◌, true≢false, arith}
+use Rattle.std.proofs.Common.{◌≡◌, ◌⊎◌, ℕ, zero, suc, ◌≤◌, ◌<◌, Bool, true, false, not, ◌&&◌, List, [], ◌∷◌, filter, length, map, inl, inr, ⊎_elim, refl, sym, ap, subst, ◌∙◌, true≢false, arith}
 use Rattle.std.specs.Cmp.Lexicographic.{same_text}
-use Rattle.std.specs.List.{list_all, list_any}
 use Rattle.std.specs.Str.{bytes_eq}
 use Rattle.fact_rows.specs.Member.{In, NoRepeats, here, more, none, there}
 use Rattle.fact_rows.proofs.Members.{and_parts, any_in, by_bool, from_filter, from_map, in_any, in_cons, in_filter, in_map, in_none}
@@ -9,10 +8,9 @@ use Rattle.owl_axioms.proofs.Listed.{own_bytes}
 use Rattle.owl_axioms.proofs.Same.{same_expr-true}
 use Rattle.owl_axioms.specs.contracts.expr.ClassExprEq.TheImpl.Laws as laws
 use Rattle.owl_axioms.specs.declared.body.Axiom.{Axiom}
-use Rattle.owl_axioms.specs.declared.expr.ClassExpr.{ClassExpr}
 use Rattle.el_rules.proofs.Sound.{derived_occurs}
 use Rattle.el_rules.specs.Laws.{HasExprsIn}
-use Rattle.el_rules.specs.Rules.{Derived, ElFact, ElView, HasLink, IsBelow, IsElPartOf, Rule, step}
+use Rattle.el_rules.specs.Rules.{Derived, ElFact, ElView, HasLink, IsBelow, IsElPartOf, step}
 use Rattle.plain_reasoning.specs.Facts.{concluded, each_once, facts_of, is_usable, known_after, knows, same_expr, same_fact}
 use Rattle.plain_reasoning.specs.Laws.{FactsAreDerived}
 use Rattle.plain_reasoning.specs.Occurring.{view_of_axioms}

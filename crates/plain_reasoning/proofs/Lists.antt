@@ -1,5 +1,5 @@
 -- Lists and tests.
-use Rattle.std.proofs.Common.{◌≡◌, ◌⊎◌, ℕ, zero, suc, ◌≤◌, ◌<◌, Bool, true, false, not, ◌&&◌, List, [], ◌∷◌, filter, length, inl, inr, ⊎_elim, refl, sym, ap, subst, ◌∙◌, true≢false, arith, cond}
+use Rattle.std.proofs.Common.{◌≡◌, ◌⊎◌, ◌≤◌, ◌<◌, Bool, true, false, ◌&&◌, List, [], ◌∷◌, filter, length, inl, inr, ⊎_elim, refl, sym, ap, ◌∙◌, true≢false, arith, cond}
 use Rattle.std.specs.List.{list_all, list_any}
 use Rattle.fact_rows.specs.Member.{In, NoRepeats, here, more, none, there}
 use Rattle.fact_rows.proofs.Members.{and_parts, by_bool, from_filter, or_true}

@@ -1,12 +1,12 @@
 -- The list of expressions that occur has exactly those that occur.
-use Rattle.std.proofs.Common.{◌≡◌, ◌⊎◌, ℕ, ◌+◌, Bool, true, false, not, ◌||◌, List, [], ◌∷◌, ◌++◌, filter, map, inl, inr, ⊎_elim, refl, sym, ap, subst, ◌∙◌, true≢false}
+use Rattle.std.proofs.Common.{◌≡◌, ℕ, Bool, true, false, not, ◌||◌, List, [], ◌∷◌, ◌++◌, map, ⊎_elim, refl, sym, ap, subst, ◌∙◌, true≢false}
 use Rattle.std.specs.Cmp.Lexicographic.{same_text}
 use Rattle.std.specs.List.{flat_map}
 use Rattle.std.specs.Str.{bytes_eq}
 use Rattle.fact_rows.specs.Member.{In, here, there}
 use Rattle.fact_rows.proofs.Members.{from_filter, from_flat_map, from_map, in_cons, in_filter, in_flat_map, in_left, in_map, in_none, in_one, in_parts, in_right}
 use Rattle.owl_axioms.proofs.Listed.{own_bytes}
-use Rattle.owl_axioms.specs.Names.{is_top_or_bottom, name_of}
+use Rattle.owl_axioms.specs.Names.{name_of}
 use Rattle.owl_axioms.specs.Vocabulary.{owl_nothing, owl_thing}
 use Rattle.owl_axioms.specs.declared.body.Axiom.{Axiom}
 use Rattle.owl_axioms.specs.declared.body.Body.{Body}
@@ -18,11 +18,9 @@ use Rattle.owl_axioms.specs.declared.expr.ClassExpr.TheVariants as expr
 use Rattle.owl_axioms.specs.declared.expr.ClassExpr.TheViews.{out-ClassExpr, out-roll-ClassExpr, roll-ClassExpr, roll-out-ClassExpr}
 use Rattle.owl_axioms.specs.declared.name.Kind.{Kind}
 use Rattle.owl_axioms.specs.declared.name.Kind.TheVariants as kind
-use Rattle.owl_axioms.specs.declared.name.Name.{Name}
 use Rattle.expr_pool.specs.Part.{layer_parts, parts_of}
 use Rattle.el_rules.specs.ElPart.{el_axioms}
 use Rattle.el_rules.specs.Occurs.{IsDeclared, Occurs, declared, exprs_in, nothing, part as a_part, standing, thing}
-use Rattle.el_rules.specs.Rules.{IsElPartOf}
 use Rattle.el_taxonomy.specs.Taxonomy.{IsDeclaredClass}
 use Rattle.plain_reasoning.specs.Laws.{ViewIsElPart}
 use Rattle.plain_reasoning.specs.Occurring.{class_declared, class_of, declared_classes, inside_of, inside_step, is_other_class, occurring_of, outermost_of, parts_in, view_of_axioms, with_inside}
@@ -141,11 +139,14 @@ other_is a h = (
   where
     own : (a b : List ℕ) → a ≡ b → bytes_eq a b ≡ true
     own a b e = subst (λ c. bytes_eq a c ≡ true) e (own_bytes a)
+
     or_first : (x y : Bool) → x ≡ true → (x || y) ≡ true
     or_first x y e = ap (λ z. z || y) e
+
     or_second : (x y : Bool) → y ≡ true → (x || y) ≡ true
     or_second true y e = refl
     or_second false y e = e
+
     neither : (x : Bool) → x ≡ true → not x ≡ true → ⊥
     neither x e h = true≢false (sym h ∙ ap not e)
 

@@ -1,5 +1,5 @@
 -- Lists of edges that rise, and what stands at their places.
-use Rattle.std.proofs.Common.{◌≡◌, ◌⊎◌, ℕ, zero, suc, ◌<◌, Bool, true, false, List, [], ◌∷◌, Some, None, map, slice_get, inl, inr, refl, sym, ap, subst, ◌∙◌, true≢false, arith}
+use Rattle.std.proofs.Common.{◌≡◌, ℕ, zero, suc, ◌<◌, true, false, List, [], ◌∷◌, Some, None, map, slice_get, refl, sym, ap, subst, ◌∙◌, true≢false, arith}
 use Rattle.std.specs.Cmp.{then_total, on_total}
 use Rattle.std.specs.Cmp.Lexicographic.{nat_list_cmp_total, slice_cmp}
 use Rattle.std.specs.FinMap.{nat_cmp-IsAntisymmetric, slice_cmp-IsAntisymmetric}
@@ -17,6 +17,7 @@ use Rattle.el_taxonomy.specs.Direct.{comes_first}
 use Rattle.el_taxonomy.specs.Reason.{inclusion_of}
 use Rattle.el_taxonomy.specs.declared.edge.Edge.{Edge}
 use Rattle.plain_reasoning.specs.Edges.{edge_cmp}
+use Rattle.plain_reasoning.proofs.Told.{is_false}
 
 -- ---- the order of edges
 
@@ -95,10 +96,6 @@ same_edge e f is =
 
 less_apart : (e f : Edge) → edge_cmp e f ≡ Less → same_axiom (inclusion_of e) (inclusion_of f) ≡ false
 less_apart e f less = is_false (same_axiom (inclusion_of e) (inclusion_of f)) (λ h. never_below_itself edge_cmp edge_order self e f (same_edge e f (same_axiom-true (inclusion_of e) (inclusion_of f) h)) less)
-  where
-    is_false : (x : Bool) → (x ≡ true → ⊥) → x ≡ false
-    is_false true h = absurd (h refl)
-    is_false false h = refl
 
 apart_below : (e : Edge) (edges : List Edge) → IsBelowOn edge_cmp self e edges → AllByRecursion (λ a. same_axiom (inclusion_of e) a ≡ false) (map inclusion_of edges)
 apart_below e [] below = tt

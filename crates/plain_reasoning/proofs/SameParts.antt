@@ -1,5 +1,5 @@
 -- What is derived goes by the axioms of a part and by which expressions occur, not by their order.
-use Rattle.std.proofs.Common.{◌≡◌, sym, subst, ◌∙◌, List}
+use Rattle.std.proofs.Common.{sym, subst, ◌∙◌, List}
 use Rattle.fact_rows.specs.Member.{In}
 use Rattle.owl_axioms.specs.declared.body.Axiom.{Axiom}
 use Rattle.owl_axioms.specs.declared.body.Body.{Body}

@@ -1,9 +1,9 @@
 -- What the tests of a plain answer tell: which facts are derived, which classes occur, and what is said.
-use Rattle.std.proofs.Common.{◌≡◌, ◌⊎◌, ◌↔◌, ℕ, Bool, true, false, not, ◌&&◌, List, [], ◌∷◌, flat_map, inl, inr, refl, sym, ap, subst, ◌∙◌, true≢false}
+use Rattle.std.proofs.Common.{◌≡◌, ℕ, Bool, true, false, not, List, refl, sym, ap, subst, ◌∙◌, true≢false}
 use Rattle.std.specs.Cmp.Lexicographic.{same_text}
 use Rattle.std.specs.Str.{bytes_eq}
-use Rattle.fact_rows.specs.Member.{In, here, there}
-use Rattle.fact_rows.proofs.Members.{from_flat_map, in_flat_map, in_none, in_one}
+use Rattle.fact_rows.specs.Member.{In, here}
+use Rattle.fact_rows.proofs.Members.{in_flat_map, in_none, in_one}
 use Rattle.owl_axioms.proofs.Listed.{own_bytes}
 use Rattle.owl_axioms.proofs.Members.{Contains-in, In-contains}
 use Rattle.owl_axioms.specs.declared.body.Axiom.{Axiom}
@@ -31,6 +31,10 @@ not_true x h e = true≢false (sym h ∙ ap not e)
 pub is_not : (x : Bool) → (x ≡ true → ⊥) → not x ≡ true
 is_not true h = absurd (h refl)
 is_not false h = refl
+
+pub is_false : (x : Bool) → (x ≡ true → ⊥) → x ≡ false
+is_false true h = absurd (h refl)
+is_false false h = refl
 
 pub same_name : (a b : List ℕ) → bytes_eq a b ≡ true → a ≡ b
 same_name a b h = same_text a b (sym h)

@@ -1,16 +1,15 @@
 -- The plain place is the one at which reasoning is refused, and there is none exactly where each declared class can have
 -- something in it.
-use Rattle.std.proofs.Common.{◌≡◌, ◌⊎◌, ℕ, Bool, true, false, not, List, [], ◌∷◌, Option, None, Some, filter, map, inl, inr, ⊎_elim, refl, sym, ap, subst, ◌∙◌, true≢false}
+use Rattle.std.proofs.Common.{◌≡◌, ℕ, true, not, List, [], ◌∷◌, None, Some, filter, inl, inr, ⊎_elim, refl, sym, ap, subst, ◌∙◌, true≢false}
 use Rattle.std.specs.Ordering.{is_gt, ordering_reverse}
 use Rattle.std.specs.Cmp.Lexicographic.{nat_list_cmp_total}
 use Rattle.std.specs.declared.cmp.Ordering.{Ordering}
 use Rattle.std.specs.declared.cmp.Ordering.TheVariants.{Equal, Greater, Less}
-use Rattle.fact_rows.specs.Member.{In, here}
-use Rattle.fact_rows.proofs.Members.{contains_from_in, from_filter, from_map, in_cons, in_filter, in_from_contains}
+use Rattle.fact_rows.proofs.Members.{contains_from_in, from_filter, from_map, in_filter, in_from_contains}
 use Rattle.text_sets.proofs.SetLemmas.{In-from_contains, contains-from_In}
 use Rattle.text_sets.proofs.SortedLemmas.{Rises-sorted_by, sorted_by-each, sorted_by-only}
 use Rattle.text_sets.specs.Sets as set
-use Rattle.text_sets.specs.Sorted.{IsBelow, Rises, sorted_by, text_cmp}
+use Rattle.text_sets.specs.Sorted.{IsBelow, Rises, text_cmp}
 use Rattle.owl_axioms.specs.Proper.{in_order}
 use Rattle.owl_axioms.specs.declared.body.Axiom.{Axiom}
 use Rattle.owl_axioms.specs.declared.expr.ClassExpr.TheVariants as expr
@@ -19,7 +18,7 @@ use Rattle.el_rules.specs.Rules.{ElView, IsBelow as IsBelowClass, IsElPartOf}
 use Rattle.el_taxonomy.specs.Reason.{IsUnsatisfiable}
 use Rattle.el_taxonomy.specs.Taxonomy.{IsDeclaredClass, IsEmpty}
 use Rattle.plain_reasoning.specs.Occurring.{declared_classes}
-use Rattle.plain_reasoning.specs.Unsatisfiable.{declares, empty_classes, first_declared, first_place, is_empty, is_first, unsatisfiable_of}
+use Rattle.plain_reasoning.specs.Unsatisfiable.{empty_classes, first_declared, first_place, is_empty, is_first, unsatisfiable_of}
 use Rattle.plain_reasoning.proofs.Declarations.{declared_first, declared_says, first_found, found_first}
 use Rattle.plain_reasoning.proofs.Occurring.{from_declared, in_declared}
 use Rattle.plain_reasoning.proofs.Told.{derived, told}
@@ -97,9 +96,9 @@ module _ (entries : List Entry) (view : ElView) (of : IsElPartOf (axioms_of entr
   least_is_first at [] rises are has u = absurd (has u.class u.declared u.empty)
   least_is_first at (c ∷ names) rises are has u =
       let first : c ≡ u.class = ⊎_elim
-        (λ e. e)
-        (λ i. let mine = are c (inl refl) in absurd (not_after c u.class (below_at c names rises.0 u.class i) (u.least c mine.0 mine.1)))
-        (has u.class u.declared u.empty) in
+      (λ e. e)
+      (λ i. let mine = are c (inl refl) in absurd (not_after c u.class (below_at c names rises.0 u.class i) (u.least c mine.0 mine.1)))
+      (has u.class u.declared u.empty) in
       subst (λ a. first_place (is_first entries a) entries ≡ Some at) (sym first) (found_first entries u.class at u.first)
 
   pub refused_at : (at : ℕ) → IsUnsatisfiable entries view at → unsatisfiable_of entries ≡ Some at

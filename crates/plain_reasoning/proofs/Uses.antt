@@ -1,8 +1,8 @@
 -- The listed uses are those of the rules: each is one, and each one whose premises are of expressions that occur, and of roles
 -- that links have, is listed.
-use Rattle.std.proofs.Common.{◌≡◌, ◌⊎◌, ℕ, List, [], ◌∷◌, ◌++◌, flat_map, map, inl, inr, ⊎_elim, refl, sym, ap, subst, ◌∙◌}
+use Rattle.std.proofs.Common.{◌≡◌, ℕ, List, [], ◌∷◌, flat_map, map, ⊎_elim, sym, ap, subst, ◌∙◌}
 use Rattle.fact_rows.specs.Member.{In, here, there}
-use Rattle.fact_rows.proofs.Members.{from_flat_map, from_map, in_cons, in_flat_map, in_left, in_map, in_none, in_one, in_parts, in_right}
+use Rattle.fact_rows.proofs.Members.{from_flat_map, from_map, in_cons, in_flat_map, in_left, in_map, in_none, in_one, in_right}
 use Rattle.owl_axioms.specs.declared.body.Body.{Body}
 use Rattle.owl_axioms.specs.declared.body.Body.TheVariants as body
 use Rattle.owl_axioms.specs.declared.expr.ClassExpr.{ClassExpr}

@@ -41,6 +41,6 @@ unfoldable pub known_after : ElView → ℕ → List ElFact
 known_after view zero = []
 known_after view (suc n) = concluded view (known_after view n)
 
--- what is known in the end: each time but the last allows for a use more, or changes nothing
+-- what is known in the end. As often as there are uses is enough: each time makes a use more possible, or changes nothing
 unfoldable pub facts_of : ElView → List ElFact
 facts_of view = known_after view (length (uses_of view))
