@@ -56,7 +56,7 @@ module _ (axioms : List Axiom) (trees : List ClassExpr) (part : PartState) (limi
       let at_n = are.rows.number i n.0 n.1 in
       let at_m = are.rows.number j m.0 m.1 in
       let both = are.table_is.below n.0 m.0 low high in (
-        λ here. subst (λ c. Derived view (IsBelow c (expr.Class b))) n.2 (subst (λ d. Derived view (IsBelow (tree_at trees n.0) d)) m.2 (both.0 (i, j, at_n, at_m, here))),
+        λ held. subst (λ c. Derived view (IsBelow c (expr.Class b))) n.2 (subst (λ d. Derived view (IsBelow (tree_at trees n.0) d)) m.2 (both.0 (i, j, at_n, at_m, held))),
         λ below.
             let s = both.1 (subst (λ c. Derived view (IsBelow c (tree_at trees m.0))) (sym n.2) (subst (λ d. Derived view (IsBelow (expr.Class a) d)) (sym m.2) below)) in
             let x : s.0 ≡ i = same_there (sym s.2 ∙ at_n) in
@@ -66,9 +66,9 @@ module _ (axioms : List Axiom) (trees : List ClassExpr) (part : PartState) (limi
 
   -- what is below something or above it has a number
   number_of_class : (a : List ℕ) → In (expr.Class a) view.occurring → (i : ℕ) × IsNumberOf exprs a i
-  number_of_class a here = let p = place_of here in (p.at, p.is)
+  number_of_class a stands = let p = place_of stands in (p.at, p.is)
 
-  numbers_below : (a b : List ℕ) → AreBelow view a b → ((i : ℕ) × IsNumberOf exprs a i) × ((j : ℕ) × IsNumberOf exprs b j)
+  pub numbers_below : (a b : List ℕ) → AreBelow view a b → ((i : ℕ) × IsNumberOf exprs a i) × ((j : ℕ) × IsNumberOf exprs b j)
   numbers_below a b below = let o = both_occur axioms view are.part_is a b below in (number_of_class a o.0, number_of_class b o.1)
 
   module _ (told : List (List ℕ)) (classes declareds : List Bool) (are_classes : AreClasses exprs classes) (are_declared : AreDeclared exprs axioms declareds) (are_told : AreTold exprs axioms told) where

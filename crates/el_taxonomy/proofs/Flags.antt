@@ -1,5 +1,5 @@
 -- Flags of declared classes and what is told of classes, axiom by axiom.
-use Rattle.std.proofs.Common.{◌≡◌, ℕ, zero, suc, ◌<◌, ◌≤◌, ◌⊎◌, inl, inr, ⊎_elim, true, Bool, List, [], ◌∷◌, ◌++◌, Option, None, Some, length, replicate, slice_get, slice_set, false, refl, sym, ap, subst, ◌∙◌, arith}
+use Rattle.std.proofs.Common.{◌≡◌, ℕ, zero, suc, ◌+◌, ◌<◌, ◌≤◌, ◌↔◌, ◌⊎◌, inl, inr, ⊎_elim, true, Bool, MatchBool, MatchOption, is_some, length-append, true≢false, List, [], ◌∷◌, ◌++◌, Option, None, Some, length, replicate, slice_get, slice_set, false, refl, sym, ap, subst, ◌∙◌, arith}
 use Rattle.std.proofs.lemmas.Bool.{cases_eq, cases_lt}
 use Rattle.std.proofs.lemmas.Option.{slice_get_within}
 use Rattle.fact_rows.specs.Marks.{IsFlagged}
@@ -9,12 +9,12 @@ use Rattle.fact_rows.proofs.RowLemmas.{row_at_end, row_empty, row_only, row_stay
 use Rattle.fact_rows.proofs.Members.{contains_from_in, in_from_contains, in_left, in_none, in_one, in_parts, in_right}
 use Rattle.fact_rows.proofs.MarkLemmas.{no_flag}
 use Rattle.std.proofs.lemmas.List.{length-replicate}
-use Rattle.fact_rows.proofs.Places.{set_other, set_same}
+use Rattle.fact_rows.proofs.Places.{get_push, get_push_kept, get_push_last, set_other, set_same}
 use Rattle.rel_io.proofs.Options.{none_there, same_there}
 use Rattle.owl_axioms.specs.declared.body.Axiom.{Axiom}
 use Rattle.owl_axioms.specs.declared.expr.ClassExpr.{ClassExpr}
 use Rattle.el_rules.specs.Occurs.{IsDeclared}
-use Rattle.el_taxonomy.specs.inner.Numbers.{AreDeclared, AreTold, FlagsMore, IsNumberOf, TellsMore, declared_in, told_in}
+use Rattle.el_taxonomy.specs.inner.Numbers.{AreClasses, AreDeclared, AreTold, FlagsMore, IsNumberOf, TellsMore, declared_in, told_in}
 use Rattle.el_taxonomy.proofs.Numbers.{declared_is, is_declared, is_told, told_is}
 use Rattle.reduce_edges.specs.Edges.{IsEdge, edge}
 
@@ -153,5 +153,58 @@ none_told exprs told n is long = record {
   each = λ i j. (
     λ h. in_none (subst (In j) (row_empty n i) (subst (λ rows. In j (row rows i)) is h)),
     λ t. in_none (in_from_contains [] t.4.one t.4.stands),
+  );
+}
+
+-- ---- flags of all classes, number by number
+
+-- those of the numbers before one
+pub record AreClassesTo (exprs : List ClassExpr) (count : ℕ) (flags : List Bool) : Type 0 where
+  pub long : length flags ≡ count
+  pub each : (k : ℕ) → k < count → IsFlagged flags k ↔ (class : List ℕ) × IsNumberOf exprs class k
+
+pub no_classes : (exprs : List ClassExpr) (flags : List Bool) → flags ≡ [] → AreClassesTo exprs 0 flags
+no_classes exprs flags is = record { long = ap length is; each = λ k low. absurd (omega (arith, low)) }
+
+-- the flag says whether the number is that of a class
+abbrev pub TellsClass : List ClassExpr → ℕ → Bool → Type 0
+TellsClass exprs k flag = MatchBool flag ((class : List ℕ) × IsNumberOf exprs class k) ((class : List ℕ) → ¬ (IsNumberOf exprs class k))
+
+pub tells_class : {X : Type 0} (exprs : List ClassExpr) (k : ℕ) (name : X → List ℕ) (found : Option X) (flag : Bool) → flag ≡ is_some found
+    → MatchOption found ((class : List ℕ) → ¬ (IsNumberOf exprs class k)) (λ x. IsNumberOf exprs (name x) k) → TellsClass exprs k flag
+tells_class exprs k name None flag is told = subst (TellsClass exprs k) (sym is) told
+tells_class exprs k name (Some x) flag is told = subst (TellsClass exprs k) (sym is) (name x, told)
+
+flag_there : (exprs : List ClassExpr) (k : ℕ) (flag : Bool) → TellsClass exprs k flag → (flag ≡ true) ↔ (class : List ℕ) × IsNumberOf exprs class k
+flag_there exprs k true told = (λ _. told, λ _. refl)
+flag_there exprs k false told = (λ h. absurd (true≢false (sym h)), λ c. absurd (told c.0 c.1))
+
+pub class_next : (exprs : List ClassExpr) (n : ℕ) (flags : List Bool) (flag : Bool) → AreClassesTo exprs n flags → TellsClass exprs n flag → AreClassesTo exprs (n + 1) (flags ++ flag ∷ [])
+class_next exprs n flags flag are told = record {
+  long = omega (arith, length-append flags (flag ∷ []), are.long);
+  each = λ k low. ⊎_elim
+      (λ (l : k < n).
+          let both = are.each k l in
+          (λ h. ⊎_elim
+              (λ (g : IsFlagged flags k). both.0 g)
+              (λ (g : (k ≡ length flags) × (true ≡ flag)). let e = g.0 in let long = are.long in absurd (omega (arith, e, long, l)))
+              (get_push flags flag true k h),
+          λ c. get_push_kept flags flag true k (both.1 c)))
+      (λ (high : n ≤ k).
+          let e : k ≡ length flags = let long = are.long in omega (arith, low, high, long) in
+          let here : k ≡ n = e ∙ are.long in
+          let both = flag_there exprs n flag told in
+          let last = get_push_last flags flag in
+          (λ h. subst (λ m. (class : List ℕ) × IsNumberOf exprs class m) (sym here) (both.0 (same_there (sym last ∙ ap (slice_get (flags ++ flag ∷ [])) (sym e) ∙ h))),
+          λ c. ap (slice_get (flags ++ flag ∷ [])) e ∙ last ∙ ap Some (both.1 (subst (λ m. (class : List ℕ) × IsNumberOf exprs class m) here c))))
+      (cases_lt k n);
+}
+
+pub all_classes : (exprs : List ClassExpr) (n : ℕ) (flags : List Bool) → n ≡ length exprs → AreClassesTo exprs n flags → AreClasses exprs flags
+all_classes exprs n flags is are = record {
+  long = are.long ∙ is;
+  each = λ k. (
+    λ h. (are.each k (subst (λ m. k < m) are.long (slice_get_within flags k true h))).0 h,
+    λ c. (are.each k (subst (λ m. k < m) (sym is) (slice_get_within exprs k _ c.1))).1 c,
   );
 }

@@ -1,5 +1,5 @@
 -- The least declaration of an empty class is the first unsatisfiable one.
-use Rattle.std.proofs.Common.{◌≡◌, ℕ, ◌<◌, ◌≤◌, Bool, true, false, not, ◌&&◌, ◌||◌, cond, List, None, Some, length, slice_get, refl, sym, ap, subst, ◌∙◌, true≢false}
+use Rattle.std.proofs.Common.{◌≡◌, ℕ, ◌<◌, ◌≤◌, Bool, true, false, not, ◌&&◌, ◌||◌, cond, List, MatchOption, Option, None, Some, length, slice_get, refl, sym, ap, subst, ◌∙◌, true≢false}
 use Rattle.std.specs.Prelude.{◌==◌, nat_lt}
 use Rattle.std.specs.Cmp.{tied_itself}
 use Rattle.std.specs.Cmp.Lexicographic.{slice_cmp}
@@ -115,3 +115,8 @@ module _ (entries : List Entry) (trees : List ClassExpr) (part : PartState) (lim
               found.first i o (within i other declares.found) (found_at class i other declares empty) (lesser_no_more one o s);
         };
       }
+
+  pub judge : AreProper axioms → (count : ℕ) (found : Option ℕ) → count ≡ length entries → IsFound entries part table count found
+      → MatchOption found ((class : List ℕ) → IsDeclaredClass axioms class → ¬ (IsEmpty view class)) (IsUnsatisfiable entries view)
+  judge proper count None long is = none_found count long is
+  judge proper count (Some at) long is = one_found proper count at (sym long) is

@@ -84,11 +84,10 @@ numbers_edge exprs sub super i j one other =
 
 -- ---- the order of edges
 
-edge_cmp : Edge → Edge → Ordering
+abbrev pub edge_cmp : Edge → Edge → Ordering
 edge_cmp one other = ordering_then (slice_cmp nat_cmp one.sub other.sub) (slice_cmp nat_cmp one.sup other.sup)
 
 edge_total : IsTotalOrder edge_cmp
-unfolding edge_cmp
 edge_total = then_total (on_total (λ (e : Edge). e.sub) nat_list_cmp_total) (on_total (λ (e : Edge). e.sup) nat_list_cmp_total)
 
 same_edge : Edge → Edge → Bool
@@ -102,7 +101,7 @@ both_equal Equal Equal h = (refl, refl)
 both_equal Equal Greater h = absurd (true≢false (sym h))
 
 same_edge_tells : (one other : Edge) → same_edge one other ≡ true → one ≡ other
-unfolding same_edge edge_cmp
+unfolding same_edge
 same_edge_tells one other h =
     let p = both_equal (slice_cmp nat_cmp one.sub other.sub) (slice_cmp nat_cmp one.sup other.sup) h in
     let sub = slice_cmp-IsAntisymmetric nat_cmp-IsAntisymmetric one.sub other.sub p.0 in
@@ -137,25 +136,25 @@ apart_from x (y ∷ ys) (suc j) other all at = apart_from x ys j other all.1 at
 
 apart_at : (ys : List Edge) (i j : ℕ) (one other : Edge) → IsDistinct same_edge ys → slice_get ys i ≡ Some one → slice_get ys j ≡ Some other → i < j → same_edge one other ≡ false
 unfolding IsDistinct
-apart_at [] i j one other all here there low = absurd (none_there here)
-apart_at (y ∷ ys) zero zero one other all here there low = absurd (omega (arith, low))
-apart_at (y ∷ ys) zero (suc j) one other all here there low = subst (λ z. same_edge z other ≡ false) (same_there here) (apart_from y ys j other all.0 there)
-apart_at (y ∷ ys) (suc i) zero one other all here there low = absurd (omega (arith, low))
-apart_at (y ∷ ys) (suc i) (suc j) one other all here there low = apart_at ys i j one other all.1 here there (omega (arith, low))
+apart_at [] i j one other all one_at other_at low = absurd (none_there one_at)
+apart_at (y ∷ ys) zero zero one other all one_at other_at low = absurd (omega (arith, low))
+apart_at (y ∷ ys) zero (suc j) one other all one_at other_at low = subst (λ z. same_edge z other ≡ false) (same_there one_at) (apart_from y ys j other all.0 other_at)
+apart_at (y ∷ ys) (suc i) zero one other all one_at other_at low = absurd (omega (arith, low))
+apart_at (y ∷ ys) (suc i) (suc j) one other all one_at other_at low = apart_at ys i j one other all.1 one_at other_at (omega (arith, low))
 
-less_from : (here there : Ordering) → there ≡ ordering_reverse here → is_lt there ≡ false → is_eq here ≡ false → is_lt here ≡ true
-less_from Less there e low apart = refl
-less_from Equal there e low apart = absurd (true≢false apart)
-less_from Greater there e low apart = absurd (true≢false (sym (ap is_lt e) ∙ low))
+less_from : (one other : Ordering) → other ≡ ordering_reverse one → is_lt other ≡ false → is_eq one ≡ false → is_lt one ≡ true
+less_from Less other e low differs = refl
+less_from Equal other e low differs = absurd (true≢false differs)
+less_from Greater other e low differs = absurd (true≢false (sym (ap is_lt e) ∙ low))
 
 strictly : (xs ys : List Edge) → IsPermutation xs ys → NoRepeats xs → IsSorted edge_cmp ys
     → (i j : ℕ) (one other : Edge) → slice_get ys i ≡ Some one → slice_get ys j ≡ Some other → i < j → comes_first one other ≡ true
-unfolding same_edge edge_cmp
-strictly xs ys moved once sorted i j one other here there low =
-    let far = sorted_far (λ a b. is_lt (edge_cmp a b)) (ranks_by edge_total (λ (e : Edge). e)) ys sorted i j one (omega (arith, low)) (slice_get_within ys j other there) in
-    let isnt : is_lt (edge_cmp other one) ≡ false = (λ k. is_lt (edge_cmp (sym (get_or_from_slice_get ys j other one there) k) (sym (get_or_from_slice_get ys i one one here) k))) ∙ far in
+unfolding same_edge
+strictly xs ys moved once sorted i j one other one_at other_at low =
+    let far = sorted_far (λ a b. is_lt (edge_cmp a b)) (ranks_by edge_total (λ (e : Edge). e)) ys sorted i j one (omega (arith, low)) (slice_get_within ys j other other_at) in
+    let isnt : is_lt (edge_cmp other one) ≡ false = (λ k. is_lt (edge_cmp (sym (get_or_from_slice_get ys j other one other_at) k) (sym (get_or_from_slice_get ys i one one one_at) k))) ∙ far in
     less_from (edge_cmp one other) (edge_cmp other one) (edge_total.antisymm other one) isnt
-    (apart_at ys i j one other (IsDistinct-IsPermutation same_edge same_edge_flips xs ys moved (apart xs once)) here there low)
+    (apart_at ys i j one other (IsDistinct-IsPermutation same_edge same_edge_flips xs ys moved (apart xs once)) one_at other_at low)
 
 -- ---- the direct edges
 

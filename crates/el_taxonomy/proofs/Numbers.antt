@@ -1,9 +1,9 @@
 -- The numbers of classes.
-use Rattle.std.proofs.Common.{◌≡◌, ℕ, ◌<◌, zero, suc, List, [], ◌∷◌, Option, None, Some, get_or, length, map, slice_get, refl, sym, ap, subst, ◌∙◌, arith, MatchOption}
+use Rattle.std.proofs.Common.{◌≡◌, ℕ, ◌<◌, zero, suc, List, [], ◌∷◌, Option, None, Some, get_or, length, map, slice_get, refl, sym, ap, subst, ◌∙◌, arith, MatchOption, OnOk, Result, Ok, Err}
 use Rattle.std.specs.Option.{option_map}
-use Rattle.std.proofs.lemmas.Option.{get_or_from_slice_get, slice_get-map, slice_get_read, slice_get_within}
+use Rattle.std.proofs.lemmas.Option.{get_or_from_slice_get, slice_get-map, slice_get_within}
 use Rattle.fact_rows.specs.Member.{In}
-use Rattle.fact_rows.proofs.Places.{in_from_get, place_of}
+use Rattle.fact_rows.proofs.Places.{get_read, in_from_get, place_of}
 use Rattle.rel_io.proofs.Options.{none_there, same_there}
 use Rattle.owl_axioms.specs.Names.{name_of}
 use Rattle.owl_axioms.specs.declared.body.Body.{Body}
@@ -26,6 +26,10 @@ pub match_more : {X P R : Type 0} {Q S : X → Type 0} (o : Option X) → (P →
 match_more None f g h = f h
 match_more (Some x) f g h = g x h
 
+pub on_ok_both : {A E P Q R : Type 0} (r : Result A E) → (P → Q → R) → OnOk r P → OnOk r Q → OnOk r R
+on_ok_both (Ok x) f p q = f p q
+on_ok_both (Err x) f p q = tt
+
 -- ---- expressions and nodes
 
 pub from_map_at : {A B : Type 0} (f : A → B) (xs : List A) (k : ℕ) (y : B) → slice_get (map f xs) k ≡ Some y → (x : A) × (slice_get xs k ≡ Some x) × (f x ≡ y)
@@ -43,7 +47,7 @@ pub tree_there : (trees : List ClassExpr) (n : Node) (c : ClassExpr) → IsNodeO
 tree_there trees n c h = get_or_from_slice_get trees n.place c expr.Thing h
 
 pub there_tree : (trees : List ClassExpr) (n : Node) → n.place < length trees → IsNodeOf trees n (tree_at trees n)
-there_tree trees n low = slice_get_read trees (length trees) n.place (tree_at trees n) refl low (let h : tree_at trees n ≡ tree_at trees n = refl in h)
+there_tree trees n low = get_read trees n.place expr.Thing low
 
 -- ---- numbers
 

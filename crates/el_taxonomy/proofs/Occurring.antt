@@ -48,7 +48,7 @@ module _ (axioms : List Axiom) (trees : List ClassExpr) (part : PartState) (limi
   view = view_of trees part
 
   pub class_not_special : AreProper axioms → (class : List ℕ) → In (expr.Class class) view.occurring → ¬ (class ≡ owl_thing) × ¬ (class ≡ owl_nothing)
-  class_not_special all class here = class_not_owl class (sym (proper_of_class class) ∙ occurs_proper axioms all ((are.part_is.occurring_are (expr.Class class)).0 here))
+  class_not_special all class stands = class_not_owl class (sym (proper_of_class class) ∙ occurs_proper axioms all ((are.part_is.occurring_are (expr.Class class)).0 stands))
 
   pub node_class : (class : List ℕ) (n : Node) → class_at part class ≡ Some n → In n part.occurring × (tree_at trees n ≡ expr.Class class)
   node_class class n at = let is = (are.classes class n).0 at in (is.0, tree_there trees n (expr.Class class) is.1)
@@ -57,8 +57,8 @@ module _ (axioms : List Axiom) (trees : List ClassExpr) (part : PartState) (limi
   class_occurs class n at = let is = node_class class n at in subst (λ c. In c view.occurring) is.1 (in_map (tree_at trees) is.0)
 
   class_node : (class : List ℕ) → In (expr.Class class) view.occurring → (n : Node) × In n part.occurring × (class_at part class ≡ Some n) × (tree_at trees n ≡ expr.Class class)
-  class_node class here =
-      let f = from_map (tree_at trees) part.occurring here in
+  class_node class stands =
+      let f = from_map (tree_at trees) part.occurring stands in
       (f.it, f.inside, (are.classes class f.it).1 (f.inside, there_tree trees f.it (are.fits.within f.it f.inside) ∙ ap Some (sym f.is)), sym f.is)
 
   nothing_node : (m : Node) → slice_get part.occurring 1 ≡ Some m → tree_at trees m ≡ expr.Nothing

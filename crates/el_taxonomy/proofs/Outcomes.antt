@@ -1,5 +1,5 @@
 -- The answers of reasoning.
-use Rattle.std.proofs.Common.{◌≡◌, ℕ, List, ◌∙◌, Unit, tt}
+use Rattle.std.proofs.Common.{◌≡◌, ℕ, List, ◌∙◌}
 use Rattle.owl_axioms.specs.declared.body.Axiom.{Axiom}
 use Rattle.owl_axioms.specs.declared.expr.ClassExpr.{ClassExpr}
 use Rattle.owl_ontology.specs.Ontology.{OntologyState, axioms_of}

@@ -14,10 +14,11 @@ use Rattle.owl_axioms.specs.declared.body.Axiom.{Axiom}
 use Rattle.owl_axioms.specs.declared.body.Body.{Body}
 use Rattle.owl_axioms.specs.declared.body.Body.TheVariants as body
 use Rattle.owl_axioms.specs.declared.expr.ClassExpr.{ClassExpr}
+use Rattle.owl_axioms.specs.declared.expr.ClassExpr.TheOpen.{ClassExpr-F}
 use Rattle.owl_axioms.specs.declared.expr.ClassExpr.TheVariants as expr
+use Rattle.owl_axioms.specs.declared.expr.ClassExpr.TheViews.{out-ClassExpr, roll-ClassExpr, roll-out-ClassExpr}
 use Rattle.owl_axioms.specs.declared.name.Kind.TheVariants as kind
-use Rattle.expr_pool.specs.Part.{parts_of}
-use Rattle.expr_pool.proofs.VisitLemmas.{parts_all, parts_and, parts_class, parts_exact, parts_max, parts_min, parts_not, parts_nothing, parts_or, parts_some, parts_thing}
+use Rattle.expr_pool.specs.Part.{layer_parts, parts_of}
 use Rattle.el_rules.specs.ElPart.{el_bodies, if_el, is_el}
 use Rattle.el_rules.specs.Occurs.{IsDeclared, Occurs, declared, exprs_in, nothing, part, standing, thing}
 use Rattle.el_part.proofs.Parts.{class_is_named}
@@ -87,18 +88,23 @@ or_operands es ok = (and_parts _ _ (sym (are_proper_operands-is es) ∙ sym (pro
 only_part_of : (e p : ClassExpr) → In p (e ∷ []) → IsOk e → IsOk p
 only_part_of e p i ok = subst IsOk (sym (in_one i)) ok
 
+layer_proper : (x : ClassExpr-F ClassExpr) (p : ClassExpr) → IsOk (roll-ClassExpr x) → In p (layer_parts x) → IsOk p
+unfolding layer_parts roll-ClassExpr denote.Hole.Carrier.roll
+layer_proper ClassExpr-F.Thing p ok i = in_none i
+layer_proper ClassExpr-F.Nothing p ok i = in_none i
+layer_proper (ClassExpr-F.Class a) p ok i = in_none i
+layer_proper (ClassExpr-F.And es) p ok i = of_all es p (operands_proper es ok) i
+layer_proper (ClassExpr-F.Or es) p ok i = of_all es p (or_operands es ok) i
+layer_proper (ClassExpr-F.Not e) p ok i = only_part_of e p i (sym (proper_of_not e) ∙ ok)
+layer_proper (ClassExpr-F.Some r e) p ok i = only_part_of e p i (and_parts _ _ (sym (proper_of_some r e) ∙ ok)).1
+layer_proper (ClassExpr-F.All r e) p ok i = only_part_of e p i (and_parts _ _ (sym (proper_of_all r e) ∙ ok)).1
+layer_proper (ClassExpr-F.Min n r e) p ok i = only_part_of e p i (and_parts _ _ (sym (proper_of_min n r e) ∙ ok)).1
+layer_proper (ClassExpr-F.Max n r e) p ok i = only_part_of e p i (and_parts _ _ (sym (proper_of_max n r e) ∙ ok)).1
+layer_proper (ClassExpr-F.Exact n r e) p ok i = only_part_of e p i (and_parts _ _ (sym (proper_of_exact n r e) ∙ ok)).1
+
 part_proper : (c p : ClassExpr) → IsOk c → In p (parts_of c) → IsOk p
-part_proper expr.Thing p ok i = in_none (subst (In p) parts_thing i)
-part_proper expr.Nothing p ok i = in_none (subst (In p) parts_nothing i)
-part_proper (expr.Class a) p ok i = in_none (subst (In p) (parts_class a) i)
-part_proper (expr.And es) p ok i = of_all es p (operands_proper es ok) (subst (In p) (parts_and es) i)
-part_proper (expr.Or es) p ok i = of_all es p (or_operands es ok) (subst (In p) (parts_or es) i)
-part_proper (expr.Not e) p ok i = only_part_of e p (subst (In p) (parts_not e) i) (sym (proper_of_not e) ∙ ok)
-part_proper (expr.Some r e) p ok i = only_part_of e p (subst (In p) (parts_some r e) i) (and_parts _ _ (sym (proper_of_some r e) ∙ ok)).1
-part_proper (expr.All r e) p ok i = only_part_of e p (subst (In p) (parts_all r e) i) (and_parts _ _ (sym (proper_of_all r e) ∙ ok)).1
-part_proper (expr.Min n r e) p ok i = only_part_of e p (subst (In p) (parts_min n r e) i) (and_parts _ _ (sym (proper_of_min n r e) ∙ ok)).1
-part_proper (expr.Max n r e) p ok i = only_part_of e p (subst (In p) (parts_max n r e) i) (and_parts _ _ (sym (proper_of_max n r e) ∙ ok)).1
-part_proper (expr.Exact n r e) p ok i = only_part_of e p (subst (In p) (parts_exact n r e) i) (and_parts _ _ (sym (proper_of_exact n r e) ∙ ok)).1
+unfolding parts_of
+part_proper c p ok i = layer_proper (out-ClassExpr c) p (ap is_proper_expr (roll-out-ClassExpr c) ∙ ok) i
 
 -- ---- what occurs
 

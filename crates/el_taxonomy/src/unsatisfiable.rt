@@ -1,5 +1,5 @@
 //! The first declared class that nothing can be in.
-ghost use Rattle.std.specs.Prelude.{ℕ, ◌≡◌, ◌<◌, ◌+◌, ◌↔◌, IsTrue, MatchOption, None, if◌then◌else◌, length};
+ghost use Rattle.std.specs.Prelude.{ℕ, ◌≡◌, ◌<◌, ◌+◌, ◌↔◌, IsTrue, List, MatchOption, None, if◌then◌else◌, length};
 ghost use Rattle.el_part.specs.Part.{view_of};
 ghost use Rattle.el_taxonomy.specs.Direct.{AreFactsOf};
 ghost use Rattle.el_taxonomy.specs.Reason.{IsUnsatisfiable};

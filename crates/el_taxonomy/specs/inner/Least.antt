@@ -1,7 +1,8 @@
 -- Declarations of classes that nothing is in, and the least of them. (Own.)
 use Rattle.std.specs.Prelude.{ℕ, ◌≡◌, ◌<◌, ◌≤◌, Bool, false, List, MatchOption, Option, Some, slice_get}
 use Rattle.std.specs.Cmp.Lexicographic.{slice_cmp}
-use Rattle.std.specs.Ordering.{Ordering, is_lt, nat_cmp, ordering_then}
+use Rattle.std.specs.Ordering.{is_lt, nat_cmp, ordering_then}
+use Rattle.std.specs.declared.cmp.Ordering.{Ordering}
 use Rattle.expr_pool.specs.declared.cell.Node.{Node}
 use Rattle.owl_ontology.specs.Ontology.{Entry}
 use Rattle.owl_ontology.specs.declared.origin.Origin.{Origin}

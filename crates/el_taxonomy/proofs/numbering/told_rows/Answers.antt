@@ -12,3 +12,6 @@ loop-at-preserved c trees ground =
     let exprs = exprs_of trees c.args.part.now in
     subst (λ l. AreTold exprs l c.push_told.new.told.items) (sym (take_at axioms c.loop-at.at one c.get.ensures.found))
     (told_next exprs (take c.loop-at.at axioms) one c.loop-at.told.items c.push_told.new.told.items (c.in_ok-push_told.ensures trees ground) (c.loop-at.invariant trees ground))
+
+pub loop-at-init : goal.loop-at-init
+loop-at-init c = ?

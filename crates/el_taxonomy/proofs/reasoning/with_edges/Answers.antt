@@ -12,7 +12,7 @@ with_all-requires c =
     let keys = c.in_ok-bodies.bodies.keys in
     let put = c.in_ok-bodies.ensures ∙ ap said_of_all c.as_slice.ensures.value in
     record {
-      proper = key_proper before view c.requires.1.part_is edges c.in_ok-edges.ensures keys put c.len-_proper.ensures.proper;
+      proper = key_proper before view c.requires.1.part_is edges c.in_ok-edges.ensures keys put c.len-proper.ensures.proper;
       absent = key_absent before view c.requires.1.part_is edges c.in_ok-edges.ensures keys put;
     }
 
