@@ -13,7 +13,7 @@ use Rattle.el_taxonomy.specs.Reason.{Infers, IsInferred, IsReasoned, inclusion_o
 use Rattle.el_taxonomy.specs.declared.edge.Edge.{Edge}
 use Rattle.relax_axioms.specs.Relax.{step_entries}
 use Rattle.plain_reasoning.specs.Edges.{edges_of, facts_in}
-use Rattle.plain_reasoning.specs.Laws.{AnswersAreReasonOf, IsAnswer, ReasonOfIsAnswer}
+use Rattle.plain_reasoning.specs.Laws.{IsAnswer, ReasonOfIsTheAnswer}
 use Rattle.plain_reasoning.specs.Occurring.{view_of_axioms}
 use Rattle.plain_reasoning.specs.Reason.{Reasoned, Reasoning, TooManyFacts, Unsatisfiable, reason_at, reason_of, with_edges}
 use Rattle.plain_reasoning.specs.Unsatisfiable.{unsatisfiable_of}
@@ -170,8 +170,8 @@ module _ (before : OntologyState) (limit : ℕ) where
       either : (m n : ℕ) → (m < n) ⊎ (n ≤ m)
       either m n = grind arith
 
-pub answers_are_reason_of : AnswersAreReasonOf
-answers_are_reason_of = answer_is
-
-pub reason_of_is_answer : ReasonOfIsAnswer
-reason_of_is_answer = is_answer
+pub reason_of_is_the_answer : ReasonOfIsTheAnswer
+reason_of_is_the_answer before limit answer = (
+  λ right. answer_is before limit answer right,
+  λ is. subst (IsAnswer before limit) is (is_answer before limit),
+)

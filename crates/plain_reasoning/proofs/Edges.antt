@@ -12,11 +12,11 @@ use Rattle.owl_axioms.specs.declared.expr.ClassExpr.TheVariants as expr
 use Rattle.reduce_edges.specs.Edges.{edge}
 use Rattle.relax_axioms.specs.Implied.{is_said}
 use Rattle.el_rules.specs.Rules.{ElView, IsBelow, IsElPartOf}
-use Rattle.el_taxonomy.specs.Direct.{edge_of}
+use Rattle.el_taxonomy.specs.Direct.{AreDirectEdges, edge_of}
 use Rattle.el_taxonomy.specs.Taxonomy.{AreBelow, IsDirectEdge, IsStrictlyBetween}
 use Rattle.el_taxonomy.specs.declared.edge.Edge.{Edge}
 use Rattle.plain_reasoning.specs.Edges.{classes_in, edge_cmp, edges_of, facts_in, is_between, is_direct, pairs_in, says_below}
-use Rattle.plain_reasoning.specs.Laws.{DirectEdgesAreOne, EdgesAreDirect}
+use Rattle.plain_reasoning.specs.Laws.{EdgesOfAreDirect}
 use Rattle.plain_reasoning.specs.Occurring.{declared_classes}
 use Rattle.plain_reasoning.proofs.Lists.{any_from, from_some}
 use Rattle.plain_reasoning.proofs.Occurring.{from_declared, in_declared}
@@ -119,14 +119,14 @@ module _ (axioms : List Axiom) (view : ElView) (of : IsElPartOf axioms view) whe
       let inside = In-from_contains e unsorted (contains_from_in (in_filter (is_direct axioms) pair (direct_told e d))) in
       contains-from_In e (sorted_on edge_cmp (λ (f : Edge). f) unsorted) (sorted_on-each edge_cmp edge_order (λ (f : Edge). f) unsorted (λ a b p q same. same) e inside)
 
-pub edges_are_direct : EdgesAreDirect
+pub edges_are_direct : (axioms : List Axiom) (view : ElView) → IsElPartOf axioms view → AreDirectEdges axioms view (edges_of axioms)
 unfolding edges_of
 edges_are_direct axioms view of = record {
   exactly = λ sub super. (has_direct axioms view of (edge_of sub super), direct_there axioms view of (edge_of sub super));
   sorted = rising_follow (edges_of axioms) (RisesOn-sorted_on edge_cmp edge_order (λ (f : Edge). f) (filter (is_direct axioms) (pairs_in axioms)));
 }
 
-pub direct_edges_are_one : DirectEdgesAreOne
+pub direct_edges_are_one : (axioms : List Axiom) (view : ElView) (edges : List Edge) → IsElPartOf axioms view → AreDirectEdges axioms view edges → edges ≡ edges_of axioms
 direct_edges_are_one axioms view edges of are =
     let own = edges_are_direct axioms view of in
     let mine = edges_of axioms in
@@ -135,3 +135,9 @@ direct_edges_are_one axioms view edges of are =
       (λ i. In-from_contains e mine ((own.exactly e.sub e.sup).1 ((are.exactly e.sub e.sup).0 (contains-from_In e edges i)))),
       (λ i. In-from_contains e edges ((are.exactly e.sub e.sup).1 ((own.exactly e.sub e.sup).0 (contains-from_In e mine i)))),
     ))
+
+pub edges_of_are_direct : EdgesOfAreDirect
+edges_of_are_direct axioms view edges of = (
+  λ are. direct_edges_are_one axioms view edges of are,
+  λ is. subst (AreDirectEdges axioms view) (sym is) (edges_are_direct axioms view of),
+)

@@ -21,13 +21,9 @@ ViewIsElPart = (axioms : List Axiom) → IsElPartOf axioms (view_of_axioms axiom
 abbrev pub FactsAreDerived : Type 0
 FactsAreDerived = (axioms : List Axiom) (view : ElView) → IsElPartOf axioms view → ((fact : ElFact) → In fact (facts_of (view_of_axioms axioms)) ↔ Derived view fact) × NoRepeats (facts_of (view_of_axioms axioms))
 
--- the edges as a function of axioms are the direct edges that are not stated
-abbrev pub EdgesAreDirect : Type 0
-EdgesAreDirect = (axioms : List Axiom) (view : ElView) → IsElPartOf axioms view → AreDirectEdges axioms view (edges_of axioms)
-
--- and there are no others
-abbrev pub DirectEdgesAreOne : Type 0
-DirectEdgesAreOne = (axioms : List Axiom) (view : ElView) (edges : List Edge) → IsElPartOf axioms view → AreDirectEdges axioms view edges → edges ≡ edges_of axioms
+-- the edges as a function of axioms are the list of the direct edges that are not stated, in the order of their names
+abbrev pub EdgesOfAreDirect : Type 0
+EdgesOfAreDirect = (axioms : List Axiom) (view : ElView) (edges : List Edge) → IsElPartOf axioms view → AreDirectEdges axioms view edges ↔ (edges ≡ edges_of axioms)
 
 -- an answer of the step is right
 abbrev pub IsAnswer : OntologyState → ℕ → Reasoning → Type 0
@@ -35,10 +31,6 @@ IsAnswer before limit (Reasoned after count unused) = Reasons before after limit
 IsAnswer before limit (Unsatisfiable at) = IsRefused before limit (fault.Unsatisfiable at)
 IsAnswer before limit (TooManyFacts n) = IsRefused before limit (fault.TooManyFacts n)
 
--- a right answer is that of the plain function
-abbrev pub AnswersAreReasonOf : Type 0
-AnswersAreReasonOf = (before : OntologyState) (limit : ℕ) (answer : Reasoning) → IsAnswer before limit answer → reason_of before limit ≡ answer
-
--- and that is a right answer
-abbrev pub ReasonOfIsAnswer : Type 0
-ReasonOfIsAnswer = (before : OntologyState) (limit : ℕ) → IsAnswer before limit (reason_of before limit)
+-- that of the plain function is, and no other
+abbrev pub ReasonOfIsTheAnswer : Type 0
+ReasonOfIsTheAnswer = (before : OntologyState) (limit : ℕ) (answer : Reasoning) → IsAnswer before limit answer ↔ (reason_of before limit ≡ answer)

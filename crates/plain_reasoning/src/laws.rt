@@ -1,10 +1,8 @@
 //! What the plain functions amount to. Each law is the contract of a function that does nothing.
 ghost use Rattle.plain_reasoning.specs.Laws.{
-  AnswersAreReasonOf,
-  DirectEdgesAreOne,
-  EdgesAreDirect,
+  EdgesOfAreDirect,
   FactsAreDerived,
-  ReasonOfIsAnswer,
+  ReasonOfIsTheAnswer,
   ViewIsElPart,
 };
 
@@ -18,22 +16,12 @@ pub fn facts_are_derived()
     ensures { FactsAreDerived }
 {}
 
-/// The edges as a function of axioms are the direct edges that are not stated, in the order of their names.
-pub fn edges_are_direct()
-    ensures { EdgesAreDirect }
+/// The edges as a function of axioms are the one list of the direct edges that are not stated, in the order of their names.
+pub fn edges_of_are_direct()
+    ensures { EdgesOfAreDirect }
 {}
 
-/// No other list has just these edges in this order.
-pub fn direct_edges_are_one()
-    ensures { DirectEdgesAreOne }
-{}
-
-/// Each right answer of the step is that of the plain function.
-pub fn answers_are_reason_of()
-    ensures { AnswersAreReasonOf }
-{}
-
-/// What the plain function answers is a right answer.
-pub fn reason_of_is_answer()
-    ensures { ReasonOfIsAnswer }
+/// The answer of the plain function is right, and is the only right one: that the step answers so is what its contract says.
+pub fn reason_of_is_the_answer()
+    ensures { ReasonOfIsTheAnswer }
 {}

@@ -6,7 +6,4 @@
 
 mod laws;
 
-pub use laws::{
-    answers_are_reason_of, direct_edges_are_one, edges_are_direct, facts_are_derived,
-    reason_of_is_answer, view_is_el_part,
-};
+pub use laws::{edges_of_are_direct, facts_are_derived, reason_of_is_the_answer, view_is_el_part};
