@@ -1,0 +1,11 @@
+pub mod Answers
+pub mod Declarations
+pub mod Edges
+pub mod Facts
+pub mod Lists
+pub mod Occurring
+pub mod Rising
+pub mod SameParts
+pub mod Told
+pub mod Unsatisfiable
+pub mod Uses
