@@ -29,7 +29,7 @@ use Rattle.spelling_laws.proofs.Named.{named_classes_have_ids}
 use Rattle.step_spelling.specs.Laws.{EdgesKeepSpelling, IsNewEdge}
 use Rattle.step_spelling.proofs.Relaxing.{below_proper, body_proper}
 
-differ : (x y : List ℕ) → ¬ (x ≡ y) → bytes_eq x y ≡ false
+pub differ : (x y : List ℕ) → ¬ (x ≡ y) → bytes_eq x y ≡ false
 differ x y isnt = ⊎_elim (λ yes. absurd (isnt (same_bytes x y yes))) (λ none. none) (cases_Bool (bytes_eq x y))
 
 -- a declared class that is neither owl:Thing nor owl:Nothing

@@ -1,8 +1,6 @@
 -- The names in what occurs in an EL part are names of the axioms.
-use Rattle.std.proofs.Common.{◌≡◌, ◌⊎◌, ℕ, Bool, true, false, not, ◌&&◌, ◌||◌, List, [], ◌∷◌, ◌++◌, map, Contains, inl, inr, ⊎_elim, refl, sym, subst}
+use Rattle.std.proofs.Common.{◌≡◌, ℕ, Bool, true, false, not, ◌||◌, List, [], ◌∷◌, ◌++◌, map, Contains, inl, inr, refl, sym, subst}
 use Rattle.std.specs.List.{flat_map, list_all}
-use Rattle.std.specs.Str.{bytes_eq}
-use Rattle.std.proofs.lemmas.Bool.{cases_Bool}
 use Rattle.fact_rows.specs.Member.{In}
 use Rattle.fact_rows.proofs.Members.{contains_from_in, from_flat_map, in_cons, in_none, in_one}
 use Rattle.owl_axioms.specs.Names.{body_names, is_signed, listed, name_of, names_in, names_of, names_step, subject_names}
@@ -17,10 +15,10 @@ use Rattle.owl_axioms.specs.declared.expr.ClassExpr.TheViews.{out-ClassExpr, rol
 use Rattle.owl_axioms.specs.declared.name.Kind.TheVariants as kind
 use Rattle.owl_axioms.specs.declared.name.Name.{Name}
 use Rattle.owl_axioms.proofs.Listed as names
-use Rattle.obo_notes.proofs.Guards.{same_bytes}
 use Rattle.expr_pool.specs.Part.{layer_parts, parts_of}
 use Rattle.el_rules.specs.ElPart.{el_bodies, if_el, is_el}
 use Rattle.el_rules.specs.Occurs.{IsDeclared, Occurs, declared, exprs_in, nothing, part, standing, thing}
+use Rattle.step_spelling.proofs.Edges.{differ}
 
 -- names of which all are among others
 abbrev Within : List Name → List Name → Type 0
@@ -107,9 +105,6 @@ body_within (body.Transitive r) b x i j = in_none (only_in b (body.Chain r r r) 
 body_within _ b x i j = in_none i
 
 -- ---- declared classes
-
-differ : (x y : List ℕ) → ¬ (x ≡ y) → bytes_eq x y ≡ false
-differ x y isnt = ⊎_elim (λ yes. absurd (isnt (same_bytes x y yes))) (λ none. none) (cases_Bool (bytes_eq x y))
 
 class_signed : (a : List ℕ) → ¬ (a ≡ owl_thing) → ¬ (a ≡ owl_nothing) → is_signed kind.Class a ≡ true
 unfolding is_signed

@@ -9,14 +9,14 @@ use Rattle.owl_ontology.specs.Ontology.{axioms_of}
 use Rattle.obo_statements.specs.Anchors.{class_entity}
 use Rattle.obo_mapping.specs.Documents.{declared_in}
 use Rattle.obo_mapping.proofs.SpelledLaw.{name_declared}
+use Rattle.relax_axioms.proofs.Missing.{axioms_with}
 use Rattle.el_rules.specs.Laws.{HasExprsIn}
 use Rattle.el_rules.specs.Rules.{ElView, IsBelow, IsElPartOf}
 use Rattle.el_rules.proofs.Sound.{derived_occurs}
 use Rattle.el_taxonomy.specs.Reason.{IsInferred}
-use Rattle.step_spelling.specs.Laws.{AddsEdges, IsNewEdge, ReasoningKeepsSpelling}
+use Rattle.step_spelling.specs.Laws.{IsNewEdge, ReasoningKeepsSpelling}
 use Rattle.step_spelling.proofs.Edges.{edges_keep_spelling}
 use Rattle.step_spelling.proofs.Occurring.{occurring_is_named}
-use Rattle.step_spelling.proofs.Relaxing.{axioms_with}
 
 inferred_edge : (axioms : List Axiom) (view : ElView) → IsElPartOf axioms view → (one : Axiom) → IsInferred axioms view one → IsNewEdge axioms one
 unfolding HasExprsIn
