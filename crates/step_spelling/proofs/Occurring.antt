@@ -9,6 +9,7 @@ use Rattle.owl_axioms.specs.declared.body.Axiom.{Axiom}
 use Rattle.owl_axioms.specs.declared.body.Body.{Body}
 use Rattle.owl_axioms.specs.declared.body.Body.TheVariants as body
 use Rattle.owl_axioms.specs.declared.expr.ClassExpr.{ClassExpr}
+use Rattle.owl_axioms.specs.declared.expr.ClassExpr.TheFolds.{map-ClassExpr}
 use Rattle.owl_axioms.specs.declared.expr.ClassExpr.TheOpen.{ClassExpr-F}
 use Rattle.owl_axioms.specs.declared.expr.ClassExpr.TheVariants as expr
 use Rattle.owl_axioms.specs.declared.expr.ClassExpr.TheViews.{out-ClassExpr, roll-ClassExpr, roll-out-ClassExpr}
@@ -20,7 +21,7 @@ use Rattle.el_rules.specs.ElPart.{el_bodies, if_el, is_el}
 use Rattle.el_rules.specs.Occurs.{IsDeclared, Occurs, declared, exprs_in, nothing, part, standing, thing}
 use Rattle.step_spelling.proofs.Edges.{differ}
 
--- names of which all are among others
+-- some names are all among others
 abbrev Within : List Name → List Name → Type 0
 Within some all = (n : Name) → Contains some n → Contains all n
 
@@ -42,7 +43,7 @@ one_within p c i n h = subst (λ x. Contains (names_in x) n) (in_one i) h
 behind_role : (r : List ℕ) (p c : ClassExpr) → In p (c ∷ []) → Within (names_in p) (name_of kind.Role r ∷ names_in c)
 behind_role r p c i n h = names.later (name_of kind.Role r) n (names_in c) (one_within p c i n h)
 
-layer_within : (x : ClassExpr-F ClassExpr) (p : ClassExpr) → In p (layer_parts x) → Within (names_in p) (names_step (Rattle.owl_axioms.specs.declared.expr.ClassExpr.TheFolds.map-ClassExpr _ _ names_in x))
+layer_within : (x : ClassExpr-F ClassExpr) (p : ClassExpr) → In p (layer_parts x) → Within (names_in p) (names_step (map-ClassExpr _ _ names_in x))
 unfolding layer_parts names_step
 layer_within ClassExpr-F.Thing p i = in_none i
 layer_within ClassExpr-F.Nothing p i = in_none i
@@ -127,9 +128,10 @@ declared_within axioms a is no_thing no_nothing n h =
 
 -- ---- all that occurs
 
-nothing_within : {P : Type 0} (x : ClassExpr-F ClassExpr) (n : Name) → names_step (Rattle.owl_axioms.specs.declared.expr.ClassExpr.TheFolds.map-ClassExpr _ _ names_in x) ≡ [] → Contains (names_in (roll-ClassExpr x)) n → P
+nothing_within : {P : Type 0} (x : ClassExpr-F ClassExpr) (n : Name) → names_step (map-ClassExpr _ _ names_in x) ≡ [] → Contains (names_in (roll-ClassExpr x)) n → P
 nothing_within x n none h = names.not_in_nothing n (subst (λ ns. Contains ns n) none (subst (λ ns. Contains ns n) (names.names_layer x) h))
 
+-- each name in an expression that occurs is one of the axioms
 pub occurring_names : (axioms : List Axiom) {c : ClassExpr} → Occurs axioms c → Within (names_in c) (names_of axioms)
 unfolding names_step roll-ClassExpr denote.Hole.Carrier.roll
 occurring_names axioms thing n h = nothing_within ClassExpr-F.Thing n refl h
