@@ -65,11 +65,11 @@ BothSome id p q = IsSome (id p) × IsSome (id q)
 abbrev other_id : (List ℕ → Option (List ℕ)) → List ℕ → List ℕ → List ℕ → Option Value
 other_id id x p q = option_and_then (λ one. as_id (id one)) (other_of x p q)
 
-as_id_some : (o : Option (List ℕ)) → IsSome (as_id o) → IsSome o
+pub as_id_some : (o : Option (List ℕ)) → IsSome (as_id o) → IsSome o
 as_id_some None some = some
 as_id_some (Some id) some = refl
 
-some_as_id : (o : Option (List ℕ)) → IsSome o → IsSome (as_id o)
+pub some_as_id : (o : Option (List ℕ)) → IsSome o → IsSome (as_id o)
 some_as_id None some = some
 some_as_id (Some id) some = refl
 
@@ -77,7 +77,7 @@ module _ (id : List ℕ → Option (List ℕ)) (p q : List ℕ) where
   abbrev read : Option (List ℕ) → Option Value
   read o = option_and_then (λ one. as_id (id one)) o
 
-  ids_of_both : (x : List ℕ) → IsSome (id x) → IsSome (other_id id x p q) → BothSome id p q
+  pub ids_of_both : (x : List ℕ) → IsSome (id x) → IsSome (other_id id x p q) → BothSome id p q
   ids_of_both x has some =
       ⊎_elim
       (λ yes. (subst (λ i. IsSome (id i)) (same_bytes x p yes) has, as_id_some (id q) (subst (λ o. IsSome (read o)) (cond-true _ (Some q) _ yes) some)))
@@ -183,11 +183,15 @@ module _ (w : Writing) where
 
   -- a character is said of one
   abbrev HasTwo : Body → Type 0
+  HasTwo (body.Sub c d) = Unit {0}
   HasTwo (body.Equiv c d) = Unit {0}
   HasTwo (body.Disjoint c d) = Unit {0}
   HasTwo (body.EquivRoles p q) = Unit {0}
   HasTwo (body.DisjointRoles p q) = Unit {0}
   HasTwo (body.Inverse p q) = Unit {0}
+  HasTwo (body.Domain p c) = Unit {0}
+  HasTwo (body.Range p c) = Unit {0}
+  HasTwo (body.ClassAssertion c i) = Unit {0}
   HasTwo _ = ⊥
 
   pub character_never : {P : Type 0} (x : Name) (character : Character) (said : Body) → HasTwo said → Valued x (has_character character) said → P

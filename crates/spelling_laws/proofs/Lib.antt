@@ -3,6 +3,7 @@ pub mod Gathering
 pub mod Homes
 pub mod Inclusions
 pub mod Matching
+pub mod Named
 pub mod NotesAlike
 pub mod Reading
 pub mod SameIds

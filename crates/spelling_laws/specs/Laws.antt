@@ -7,9 +7,11 @@ use Rattle.text_sets.specs.Sets.{In, SameMembers}
 use Rattle.owl_axioms.specs.declared.body.Axiom.{Axiom}
 use Rattle.owl_axioms.specs.declared.body.Body.{Body}
 use Rattle.owl_axioms.specs.declared.body.Body.TheVariants as body
-use Rattle.owl_axioms.specs.Proper.{IsProper}
+use Rattle.owl_axioms.specs.Names.{listed, names_of}
+use Rattle.owl_axioms.specs.Proper.{IsProper, is_class_iri}
 use Rattle.owl_axioms.specs.declared.expr.ClassExpr.{ClassExpr}
 use Rattle.owl_axioms.specs.declared.expr.ClassExpr.TheVariants as expr
+use Rattle.owl_axioms.specs.declared.name.Kind.TheVariants as kinds
 use Rattle.owl_axioms.specs.declared.name.Name.{Name}
 use Rattle.obo_frames.specs.Framed.{unlined}
 use Rattle.obo_frames.specs.Soundness.{IsSound}
@@ -85,3 +87,8 @@ pub record IsInclusion (name : Option (List ℕ)) (axioms : List Axiom) (one : A
 abbrev pub InclusionsKeepSpelling : Type 0
 InclusionsKeepSpelling = (name : Option (List ℕ)) (axioms more : List Axiom) → IsSpellable name axioms
     → ((one : Axiom) → In one axioms → In one more) → ((one : Axiom) → In one more → In one axioms ⊎ IsInclusion name axioms one) → IsSpellable name more
+
+-- where axioms can be written, each class that they name has an id, and is neither owl:Thing nor owl:Nothing
+abbrev pub NamedClassesHaveIds : Type 0
+NamedClassesHaveIds = (name : Option (List ℕ)) (axioms : List Axiom) → IsSpellable name axioms
+    → (iri : List ℕ) → listed (names_of axioms) kinds.Class iri ≡ true → IsSome ((writing_of name).id iri) × (is_class_iri iri ≡ true)

@@ -4,6 +4,7 @@ ghost use Rattle.spelling_laws.specs.Laws.{
   IdsGoByNoName,
   InclusionsKeepSpelling,
   MergingKeepsSpelling,
+  NamedClassesHaveIds,
   PartKeepsSpelling,
   ReadCanBeWritten,
   SpellableIsOfSet,
@@ -42,4 +43,9 @@ pub fn part_keeps_spelling()
 /// Inclusions of declared classes in classes and restrictions that can be written can be added.
 pub fn inclusions_keep_spelling()
     ensures { InclusionsKeepSpelling }
+{}
+
+/// Where axioms can be written, each class that they name has an id.
+pub fn named_classes_have_ids()
+    ensures { NamedClassesHaveIds }
 {}

@@ -6,5 +6,5 @@ mod laws;
 
 pub use laws::{
     gathering_keeps_spelling, ids_go_by_no_name, inclusions_keep_spelling, merging_keeps_spelling,
-    part_keeps_spelling, read_can_be_written, spellable_is_of_set,
+    named_classes_have_ids, part_keeps_spelling, read_can_be_written, spellable_is_of_set,
 };

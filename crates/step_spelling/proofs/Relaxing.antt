@@ -171,11 +171,11 @@ defined_formed w declared a class ops defines is =
 operand_proper : (ops : List ClassExpr) → is_proper_expr (expr.And ops) ≡ true → (operand : ClassExpr) → Contains ops operand → is_proper_expr operand ≡ true
 operand_proper ops is operand has = passes is_proper_expr operand ops (and_parts _ _ (sym (are_proper_operands-is ops) ∙ sym (proper_of_and ops) ∙ is)).1 (In-contains operand ops has)
 
-below_proper : (class : List ℕ) (operand : ClassExpr) → is_proper_expr (expr.Class class) ≡ true → is_proper_expr operand ≡ true → is_proper (plain (below class operand)) ≡ true
+pub below_proper : (class : List ℕ) (operand : ClassExpr) → is_proper_expr (expr.Class class) ≡ true → is_proper_expr operand ≡ true → is_proper (plain (below class operand)) ≡ true
 unfolding is_proper is_proper_body
 below_proper class operand one other = λ i. (one i && other i) && are_proper_sides-none i
 
-body_proper : (one : Axiom) → is_proper one ≡ true → is_proper_body one.body ≡ true
+pub body_proper : (one : Axiom) → is_proper one ≡ true → is_proper_body one.body ≡ true
 unfolding is_proper
 body_proper one is = (and_parts (is_proper_body one.body) (are_proper_sides one.sides) is).0
 

@@ -1,6 +1,8 @@
 //! What can be written stays so. Each law is the contract of a function that does nothing.
 ghost use Rattle.step_spelling.specs.Laws.{
+  EdgesKeepSpelling,
   ExtractingKeepsSpelling,
+  ReasoningKeepsSpelling,
   ReducingKeepsSpelling,
   RelaxingKeepsSpelling,
   ShippingKeepsSpelling,
@@ -24,4 +26,14 @@ pub fn shipping_keeps_spelling()
 /// An ontology that can be written can be written after an extract, by any method and for any seed.
 pub fn extracting_keeps_spelling()
     ensures { ExtractingKeepsSpelling }
+{}
+
+/// An ontology that can be written can be written with more inclusions of declared classes in classes that it names.
+pub fn edges_keep_spelling()
+    ensures { EdgesKeepSpelling }
+{}
+
+/// An ontology that can be written can be written after reasoning.
+pub fn reasoning_keeps_spelling()
+    ensures { ReasoningKeepsSpelling }
 {}

@@ -5,6 +5,6 @@
 mod laws;
 
 pub use laws::{
-    extracting_keeps_spelling, reducing_keeps_spelling, relaxing_keeps_spelling,
-    shipping_keeps_spelling,
+    edges_keep_spelling, extracting_keeps_spelling, reasoning_keeps_spelling,
+    reducing_keeps_spelling, relaxing_keeps_spelling, shipping_keeps_spelling,
 };
