@@ -1,6 +1,6 @@
 -- The generated document of a size: a tree of Terms, groups of Terms that are linked to it, and one property. (Own; the
 -- document is one of the OBO Flat File Format 1.4.)
-use Rattle.std.specs.Prelude.{ℕ, ◌+◌, ◌*◌, ◌/◌, ◌%◌, ◌==◌, Bool, not, ◌&&◌, ◌||◌, if◌then◌else◌, List, [], ◌∷◌, ◌++◌, codes, flat_map, map, nat_lt}
+use Rattle.std.specs.Prelude.{ℕ, ◌+◌, ◌*◌, ◌/◌, ◌%◌, ◌==◌, Bool, not, ◌&&◌, ◌||◌, if◌then◌else◌, List, [], ◌∷◌, ◌++◌, codes, flat_map, nat_lt}
 use Rattle.std.specs.List.{range_with_len}
 use Rattle.obo_gen.specs.Digits.{seven_digits}
 

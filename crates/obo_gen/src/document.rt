@@ -1,5 +1,5 @@
 //! The whole document.
-ghost use Rattle.std.specs.Prelude.{◌≡◌, ◌≤◌, ◌+◌, ◌/◌, ◌++◌, IfOk, OnOk, flat_map};
+ghost use Rattle.std.specs.Prelude.{◌≡◌, ◌<◌, ◌≤◌, ◌+◌, ◌/◌, ◌^◌, ◌++◌, IfOk, OnOk, flat_map, length};
 ghost use Rattle.std.specs.List.{range_with_len};
 ghost use Rattle.obo_gen.specs.Generated as spec;
 
@@ -9,9 +9,18 @@ use rel_io::{Bytes, NoMemory};
 use std::alloc::Global;
 
 /// The document of a size from 10 to 1000000. It takes time in proportion to the size.
-#[tactic(auto, unfolding(crate::specs::Generated::generated))]
 pub fn generate(alloc: Global, n: u32) -> Result<Bytes, NoMemory>
     requires { (10 ≤ n) × (n ≤ 1000000) }
+    ensures text { IfOk result (λ text. text ≡ spec.generated n) }
+    ensures small { IfOk result (λ text. length text < 2 ^ 32) }
+{
+    document(alloc, n)
+}
+
+/// The header, the tree, the groups and the property.
+#[tactic(auto, unfolding(crate::specs::Generated::generated))]
+fn document(alloc: Global, n: u32) -> Result<Bytes, NoMemory>
+    requires { n ≤ 1000000 }
     ensures { IfOk result (λ text. text ≡ spec.generated n) }
 {
     let mut text = Vec::new(alloc);
