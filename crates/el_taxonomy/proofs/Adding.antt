@@ -4,7 +4,6 @@ use Rattle.std.specs.List.{AllByRecursion, IsDistinct, list_any}
 use Rattle.std.specs.Cmp.{tied_itself}
 use Rattle.std.specs.Cmp.Lexicographic.{slice_cmp}
 use Rattle.std.specs.Ordering.{is_lt, nat_cmp, ordering_then}
-use Rattle.std.specs.declared.cmp.Ordering.TheVariants.{Equal}
 use Rattle.std.proofs.lemmas.Cmp.{nat_list_cmp_total}
 use Rattle.indexmap.specs.IndexSet.{insert_all}
 use Rattle.fact_rows.proofs.Members.{by_bool}
@@ -19,7 +18,6 @@ use Rattle.owl_ontology.specs.Ontology.{OntologyState, axioms_of}
 use Rattle.el_rules.specs.Rules.{ElView, IsBelow, IsElPartOf}
 use Rattle.el_rules.specs.Laws.{HasExprsIn}
 use Rattle.el_rules.proofs.Sound.{derived_occurs}
-use Rattle.reduce_edges.specs.Edges.{edge}
 use Rattle.relax_axioms.specs.Implied.{same_body}
 use Rattle.relax_axioms.specs.Relax.{step_entries}
 use Rattle.relax_axioms.specs.Relaxed.{plain}

@@ -1,6 +1,5 @@
 -- Direct edges between numbers are direct edges between classes.
-use Rattle.std.proofs.Common.{◌≡◌, ℕ, ◌<◌, ◌↔◌, List, Bool, Some, length, slice_get, refl, sym, ap, subst, ◌∙◌}
-use Rattle.fact_rows.specs.Marks.{IsFlagged}
+use Rattle.std.proofs.Common.{◌≡◌, ℕ, ◌↔◌, List, Bool, Some, slice_get, sym, ap, subst, ◌∙◌}
 use Rattle.fact_rows.specs.Member.{In}
 use Rattle.fact_rows.specs.Rows.{row}
 use Rattle.fact_rows.proofs.Places.{in_from_get, place_of}

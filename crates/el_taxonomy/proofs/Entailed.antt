@@ -1,5 +1,5 @@
 -- What is derived is entailed, and so reasoning keeps all names both ways.
-use Rattle.std.proofs.Common.{◌≡◌, ℕ, List, [], ◌∷◌, ◌++◌, Contains, map, refl, sym, ap, subst, ◌∙◌}
+use Rattle.std.proofs.Common.{◌≡◌, ℕ, List, [], ◌∷◌, ◌++◌, refl, sym, ap, subst, ◌∙◌}
 use Rattle.std.proofs.lemmas.List.{map-append}
 use Rattle.owl_axioms.specs.declared.body.Axiom.{Axiom}
 use Rattle.owl_axioms.specs.declared.expr.ClassExpr.TheVariants as expr
@@ -11,10 +11,10 @@ use Rattle.owl_sem.specs.Laws.{KeepBoth}
 use Rattle.owl_sem.specs.Models.{IsModel, Satisfies}
 use Rattle.el_rules.specs.ElPart.{is_used, used_of}
 use Rattle.el_rules.specs.Laws.{said_by}
-use Rattle.el_rules.specs.Rules.{Derived, ElView, IsBelow, IsElPartOf}
+use Rattle.el_rules.specs.Rules.{ElView, IsBelow, IsElPartOf}
 use Rattle.el_rules.proofs.Sound.{derived_true}
 use Rattle.el_taxonomy.specs.Laws.{BelowIsEntailed, InferredIsEntailed}
-use Rattle.el_taxonomy.specs.Reason.{Reasons}
+use Rattle.el_taxonomy.specs.Reason.{Infers, Reasons}
 use Rattle.reduce_edges.specs.Edges.{edge}
 use Rattle.relax_axioms.specs.Relax.{step_entries}
 
@@ -40,8 +40,11 @@ step_axioms (a ∷ added) = ap (λ rest. a ∷ rest) (step_axioms added)
 pub axioms_with : (held : List Entry) (added : List Axiom) → axioms_of (held ++ step_entries added) ≡ axioms_of held ++ added
 axioms_with held added = map-append (λ (e : Entry). e.axiom) held (step_entries added) ∙ ap (λ rest. axioms_of held ++ rest) (step_axioms added)
 
-pub reasoning_keeps : (before after : OntologyState) (limit count unused : ℕ) → Reasons before after limit count unused → KeepBoth (axioms_of before.entries) (axioms_of after.entries)
-reasoning_keeps before after limit count unused one =
+pub infers_keeps : {view : ElView} {before after : OntologyState} {count : ℕ} → IsElPartOf (axioms_of before.entries) view → Infers view before after count → KeepBoth (axioms_of before.entries) (axioms_of after.entries)
+infers_keeps {view} {before} of infers =
     let axioms = axioms_of before.entries in
-    subst (KeepBoth axioms) (sym (ap axioms_of one.infers.entries ∙ axioms_with before.entries one.infers.added))
-    (adding_entailed_keeps axioms one.infers.added (λ a here. inferred_is_entailed axioms one.view one.reasoned.part a ((one.infers.exactly a).0 here)))
+    subst (KeepBoth axioms) (sym (ap axioms_of infers.entries ∙ axioms_with before.entries infers.added))
+    (adding_entailed_keeps axioms infers.added (λ a held. inferred_is_entailed axioms view of a ((infers.exactly a).0 held)))
+
+pub reasoning_keeps : (before after : OntologyState) (limit count unused : ℕ) → Reasons before after limit count unused → KeepBoth (axioms_of before.entries) (axioms_of after.entries)
+reasoning_keeps before after limit count unused one = infers_keeps one.reasoned.part one.infers

@@ -1,5 +1,5 @@
 -- Flags of declared classes and what is told of classes, axiom by axiom.
-use Rattle.std.proofs.Common.{◌≡◌, ℕ, zero, suc, ◌+◌, ◌<◌, ◌≤◌, ◌↔◌, ◌⊎◌, inl, inr, ⊎_elim, true, Bool, MatchBool, MatchOption, is_some, length-append, true≢false, List, [], ◌∷◌, ◌++◌, Option, None, Some, length, replicate, slice_get, slice_set, false, refl, sym, ap, subst, ◌∙◌, arith}
+use Rattle.std.proofs.Common.{◌≡◌, ℕ, zero, suc, ◌+◌, ◌<◌, ◌≤◌, ◌↔◌, inl, inr, ⊎_elim, true, Bool, MatchBool, MatchOption, is_some, length-append, true≢false, List, [], ◌∷◌, ◌++◌, Option, None, Some, length, replicate, slice_get, slice_set, false, refl, sym, ap, subst, ◌∙◌, arith}
 use Rattle.std.proofs.lemmas.Bool.{cases_eq, cases_lt}
 use Rattle.std.proofs.lemmas.Option.{slice_get_within}
 use Rattle.fact_rows.specs.Marks.{IsFlagged}
@@ -10,10 +10,9 @@ use Rattle.fact_rows.proofs.Members.{contains_from_in, in_from_contains, in_left
 use Rattle.fact_rows.proofs.MarkLemmas.{no_flag}
 use Rattle.std.proofs.lemmas.List.{length-replicate}
 use Rattle.fact_rows.proofs.Places.{get_push, get_push_kept, get_push_last, set_other, set_same}
-use Rattle.rel_io.proofs.Options.{none_there, same_there}
+use Rattle.rel_io.proofs.Options.{same_there}
 use Rattle.owl_axioms.specs.declared.body.Axiom.{Axiom}
 use Rattle.owl_axioms.specs.declared.expr.ClassExpr.{ClassExpr}
-use Rattle.el_rules.specs.Occurs.{IsDeclared}
 use Rattle.el_taxonomy.specs.inner.Numbers.{AreClasses, AreDeclared, AreTold, FlagsMore, IsNumberOf, TellsMore, declared_in, told_in}
 use Rattle.el_taxonomy.proofs.Numbers.{declared_is, is_declared, is_told, told_is}
 use Rattle.reduce_edges.specs.Edges.{IsEdge, edge}
@@ -170,10 +169,10 @@ no_classes exprs flags is = record { long = ap length is; each = λ k low. absur
 abbrev pub TellsClass : List ClassExpr → ℕ → Bool → Type 0
 TellsClass exprs k flag = MatchBool flag ((class : List ℕ) × IsNumberOf exprs class k) ((class : List ℕ) → ¬ (IsNumberOf exprs class k))
 
-pub tells_class : {X : Type 0} (exprs : List ClassExpr) (k : ℕ) (name : X → List ℕ) (found : Option X) (flag : Bool) → flag ≡ is_some found
+pub tells_class : {X : Type 0} (exprs : List ClassExpr) (k : ℕ) (found : Option X) (flag : Bool) (name : X → List ℕ) → flag ≡ is_some found
     → MatchOption found ((class : List ℕ) → ¬ (IsNumberOf exprs class k)) (λ x. IsNumberOf exprs (name x) k) → TellsClass exprs k flag
-tells_class exprs k name None flag is told = subst (TellsClass exprs k) (sym is) told
-tells_class exprs k name (Some x) flag is told = subst (TellsClass exprs k) (sym is) (name x, told)
+tells_class exprs k None flag name is told = subst (TellsClass exprs k) (sym is) told
+tells_class exprs k (Some x) flag name is told = subst (TellsClass exprs k) (sym is) (name x, told)
 
 flag_there : (exprs : List ClassExpr) (k : ℕ) (flag : Bool) → TellsClass exprs k flag → (flag ≡ true) ↔ (class : List ℕ) × IsNumberOf exprs class k
 flag_there exprs k true told = (λ _. told, λ _. refl)
@@ -184,19 +183,21 @@ class_next exprs n flags flag are told = record {
   long = omega (arith, length-append flags (flag ∷ []), are.long);
   each = λ k low. ⊎_elim
       (λ (l : k < n).
-          let both = are.each k l in
-          (λ h. ⊎_elim
-              (λ (g : IsFlagged flags k). both.0 g)
-              (λ (g : (k ≡ length flags) × (true ≡ flag)). let e = g.0 in let long = are.long in absurd (omega (arith, e, long, l)))
-              (get_push flags flag true k h),
-          λ c. get_push_kept flags flag true k (both.1 c)))
+      let both = are.each k l in (
+        λ h. ⊎_elim
+            (λ (g : IsFlagged flags k). both.0 g)
+            (λ (g : (k ≡ length flags) × (true ≡ flag)). let e = g.0 in let long = are.long in absurd (omega (arith, e, long, l)))
+            (get_push flags flag true k h),
+        λ c. get_push_kept flags flag true k (both.1 c),
+      ))
       (λ (high : n ≤ k).
-          let e : k ≡ length flags = let long = are.long in omega (arith, low, high, long) in
-          let here : k ≡ n = e ∙ are.long in
-          let both = flag_there exprs n flag told in
-          let last = get_push_last flags flag in
-          (λ h. subst (λ m. (class : List ℕ) × IsNumberOf exprs class m) (sym here) (both.0 (same_there (sym last ∙ ap (slice_get (flags ++ flag ∷ [])) (sym e) ∙ h))),
-          λ c. ap (slice_get (flags ++ flag ∷ [])) e ∙ last ∙ ap Some (both.1 (subst (λ m. (class : List ℕ) × IsNumberOf exprs class m) here c))))
+      let e : k ≡ length flags = let long = are.long in omega (arith, low, high, long) in
+      let here : k ≡ n = e ∙ are.long in
+      let both = flag_there exprs n flag told in
+      let last = get_push_last flags flag in (
+        λ h. subst (λ m. (class : List ℕ) × IsNumberOf exprs class m) (sym here) (both.0 (same_there (sym last ∙ ap (slice_get (flags ++ flag ∷ [])) (sym e) ∙ h))),
+        λ c. ap (slice_get (flags ++ flag ∷ [])) e ∙ last ∙ ap Some (both.1 (subst (λ m. (class : List ℕ) × IsNumberOf exprs class m) here c)),
+      ))
       (cases_lt k n);
 }
 

@@ -1,5 +1,5 @@
 -- The least declaration of an empty class is the first unsatisfiable one.
-use Rattle.std.proofs.Common.{◌≡◌, ℕ, ◌<◌, ◌≤◌, Bool, true, false, not, ◌&&◌, ◌||◌, cond, List, MatchOption, Option, None, Some, length, slice_get, refl, sym, ap, subst, ◌∙◌, true≢false}
+use Rattle.std.proofs.Common.{◌≡◌, ℕ, ◌<◌, Bool, true, false, not, ◌&&◌, ◌||◌, cond, List, MatchOption, Option, None, Some, length, slice_get, refl, sym, ap, subst, ◌∙◌, true≢false}
 use Rattle.std.specs.Prelude.{◌==◌, nat_lt}
 use Rattle.std.specs.Cmp.{tied_itself}
 use Rattle.std.specs.Cmp.Lexicographic.{slice_cmp}
@@ -8,7 +8,6 @@ use Rattle.std.specs.declared.cmp.Ordering.{Ordering}
 use Rattle.std.specs.declared.cmp.Ordering.TheVariants.{Equal, Greater, Less}
 use Rattle.std.proofs.lemmas.Cmp.{nat_list_cmp_total}
 use Rattle.std.proofs.lemmas.Option.{slice_get_within}
-use Rattle.fact_rows.specs.Member.{In}
 use Rattle.fact_rows.proofs.Places.{in_from_get, place_of}
 use Rattle.owl_axioms.specs.Proper.{AreProper, in_order}
 use Rattle.owl_axioms.specs.declared.body.Axiom.{Axiom}
@@ -21,10 +20,9 @@ use Rattle.el_rules.specs.Occurs.{IsDeclared}
 use Rattle.el_rules.specs.Rules.{ElView}
 use Rattle.el_saturate.specs.Table.{Facts}
 use Rattle.el_taxonomy.specs.Direct.{AreFactsOf}
-use Rattle.el_taxonomy.specs.Reason.{DeclaresAt, IsFirstDeclaration, IsUnsatisfiable}
+use Rattle.el_taxonomy.specs.Reason.{DeclaresAt, IsUnsatisfiable}
 use Rattle.el_taxonomy.specs.Taxonomy.{IsDeclaredClass, IsEmpty}
 use Rattle.el_taxonomy.specs.inner.Least.{Declared, IsEmptyAt, IsFound, IsLeastAt, is_lesser}
-use Rattle.el_taxonomy.specs.inner.Numbers.{declared_in}
 use Rattle.el_taxonomy.proofs.Least.{axiom_at, entry_at, lesser_no_more}
 use Rattle.el_taxonomy.proofs.Numbers.{declared_is, is_declared}
 use Rattle.el_taxonomy.proofs.Occurring.{class_not_special, class_occurs, derived_empty, empty_derived}

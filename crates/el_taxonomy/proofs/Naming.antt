@@ -1,6 +1,6 @@
 -- The edges between the classes of numbers, and their order.
-use Rattle.std.proofs.Common.{◌≡◌, ℕ, zero, suc, ◌<◌, ◌≤◌, Bool, true, false, not, List, [], ◌∷◌, ◌++◌, Contains, IsPermutation, Option, None, Some, length, slice_get, refl, sym, ap, subst, ◌∙◌, arith, true≢false}
-use Rattle.std.specs.Cmp.{IsStrictWeakOrder, IsTotalOrder, tied_itself}
+use Rattle.std.proofs.Common.{◌≡◌, ℕ, zero, suc, ◌<◌, Bool, true, false, List, [], ◌∷◌, IsPermutation, Option, None, Some, slice_get, refl, sym, ap, subst, ◌∙◌, arith, true≢false}
+use Rattle.std.specs.Cmp.{IsTotalOrder}
 use Rattle.std.specs.FinMap.{nat_cmp-IsAntisymmetric, slice_cmp-IsAntisymmetric}
 use Rattle.std.specs.List.{AllByRecursion, IsDistinct}
 use Rattle.std.specs.List.Sorted.{IsSorted}
@@ -13,7 +13,6 @@ use Rattle.std.proofs.lemmas.List.MinMax.{ranks_by}
 use Rattle.std.proofs.lemmas.List.Sorted.{sorted_far}
 use Rattle.std.proofs.lemmas.Map.Keys.{IsDistinct-IsPermutation}
 use Rattle.std.proofs.lemmas.Option.{get_or_from_slice_get, slice_get_within}
-use Rattle.fact_rows.specs.Marks.{IsFlagged}
 use Rattle.fact_rows.specs.Member.{In, NoRepeats, here, more, none, there}
 use Rattle.fact_rows.proofs.Members.{by_bool, contains_from_in, from_flat_map, in_flat_map, in_from_contains, in_none, in_one, in_permuted, in_unpermuted}
 use Rattle.fact_rows.proofs.Places.{in_from_get}
@@ -29,10 +28,10 @@ use Rattle.el_rules.specs.Occurs.{IsDeclared}
 use Rattle.el_rules.specs.Rules.{ElView}
 use Rattle.el_saturate.specs.Table.{Facts}
 use Rattle.el_taxonomy.specs.Direct.{AreDirectEdges, AreFactsOf, comes_first, edge_of}
-use Rattle.el_taxonomy.specs.Taxonomy.{IsDeclaredClass, IsDirectEdge}
+use Rattle.el_taxonomy.specs.Taxonomy.{IsDirectEdge}
 use Rattle.el_taxonomy.specs.declared.edge.Edge.{Edge}
 use Rattle.el_taxonomy.specs.inner.Named.{class_if, class_numbered, edge_between, edge_numbered, edges_numbered}
-use Rattle.el_taxonomy.specs.inner.Numbers.{AreClasses, AreDeclared, AreTold, IsGround, IsNumberOf, class_name, exprs_of}
+use Rattle.el_taxonomy.specs.inner.Numbers.{AreClasses, AreDeclared, AreTold, IsNumberOf, class_name, exprs_of}
 use Rattle.el_taxonomy.proofs.Bridge.{direct_there, ground_of, numbers_below, one_number, there_direct}
 use Rattle.el_taxonomy.proofs.Numbers.{classes_same, name_is, named_class}
 use Rattle.el_taxonomy.proofs.Occurring.{class_not_special}
@@ -181,7 +180,7 @@ module _ (axioms : List Axiom) (trees : List ClassExpr) (part : PartState) (limi
       (λ e i j. let f = from_flat_map (edge_numbered exprs) pairs j in isnt (subst (λ q. In q pairs) (sym (one_pair p f.it e i f.out)) f.inside))
 
   module _ (told : List (List ℕ)) (classes declareds : List Bool) (are_classes : AreClasses exprs classes) (are_declared : AreDeclared exprs axioms declareds) (are_told : AreTold exprs axioms told)
-    (pairs : List (ℕ × ℕ)) (direct : AreDirect table.table.below told classes declareds pairs) where
+      (pairs : List (ℕ × ℕ)) (direct : AreDirect table.table.below told classes declareds pairs) where
     edge_direct : AreProper axioms → (sub super : List ℕ) → In (edge_of sub super) (edges_numbered exprs pairs) → IsDirectEdge axioms view sub super
     edge_direct proper sub super i =
         let f = from_flat_map (edge_numbered exprs) pairs i in

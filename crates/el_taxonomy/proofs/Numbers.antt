@@ -1,5 +1,5 @@
 -- The numbers of classes.
-use Rattle.std.proofs.Common.{◌≡◌, ℕ, ◌<◌, zero, suc, List, [], ◌∷◌, Option, None, Some, get_or, length, map, slice_get, refl, sym, ap, subst, ◌∙◌, arith, MatchOption, OnOk, Result, Ok, Err}
+use Rattle.std.proofs.Common.{◌≡◌, ℕ, ◌<◌, zero, suc, List, [], ◌∷◌, Option, None, Some, length, map, slice_get, refl, sym, ap, ◌∙◌, MatchOption, OnOk, Result, Ok, Err}
 use Rattle.std.specs.Option.{option_map}
 use Rattle.std.proofs.lemmas.Option.{get_or_from_slice_get, slice_get-map, slice_get_within}
 use Rattle.fact_rows.specs.Member.{In}
@@ -17,7 +17,7 @@ use Rattle.expr_pool.specs.Pool.{tree_at, tree_of}
 use Rattle.expr_pool.specs.declared.cell.Cell.{Cell}
 use Rattle.expr_pool.specs.declared.cell.Cell.TheVariants as cell
 use Rattle.expr_pool.specs.declared.cell.Node.{Node}
-use Rattle.el_part.specs.Part.{FitsPool, IsNodeOf, PartState, class_at}
+use Rattle.el_part.specs.Part.{IsNodeOf, PartState, class_at}
 use Rattle.el_saturate.specs.Table.{Facts}
 use Rattle.el_taxonomy.specs.inner.Numbers.{IsGround, IsNumberOf, both_of, class_in, class_name, declared_as, declared_in, exprs_of, told_in}
 use Rattle.reduce_edges.specs.Edges.{edge}

@@ -1,5 +1,5 @@
 -- Classes that occur, and those that nothing is in.
-use Rattle.std.proofs.Common.{◌≡◌, ℕ, ◌<◌, Bool, true, false, not, ◌||◌, List, Some, length, slice_get, nat_eq, refl, sym, ap, subst, ◌∙◌, true≢false}
+use Rattle.std.proofs.Common.{◌≡◌, ℕ, ◌<◌, Bool, true, false, not, ◌||◌, List, Some, length, slice_get, nat_eq, sym, ap, subst, ◌∙◌, true≢false}
 use Rattle.std.specs.Cmp.Lexicographic.{pointwise}
 use Rattle.std.proofs.lemmas.Cmp.{nat_list_eq_equiv}
 use Rattle.fact_rows.specs.Member.{In}
@@ -30,9 +30,10 @@ use Rattle.el_taxonomy.proofs.Proper.{occurs_proper}
 class_not_owl : (iri : List ℕ) → is_class_iri iri ≡ true → ¬ (iri ≡ owl_thing) × ¬ (iri ≡ owl_nothing)
 unfolding is_class_iri
 class_not_owl iri h =
-    let p = (and_parts (is_clean_iri iri) (not (pointwise nat_eq iri owl_thing || pointwise nat_eq iri owl_nothing)) h).1 in
-    (λ e. neither_one _ _ p (ap (pointwise nat_eq iri) (sym e) ∙ nat_list_eq_equiv.refl iri),
-    λ e. neither_other _ _ p (ap (pointwise nat_eq iri) (sym e) ∙ nat_list_eq_equiv.refl iri))
+    let p = (and_parts (is_clean_iri iri) (not (pointwise nat_eq iri owl_thing || pointwise nat_eq iri owl_nothing)) h).1 in (
+      λ e. neither_one _ _ p (ap (pointwise nat_eq iri) (sym e) ∙ nat_list_eq_equiv.refl iri),
+      λ e. neither_other _ _ p (ap (pointwise nat_eq iri) (sym e) ∙ nat_list_eq_equiv.refl iri),
+    )
   where
     neither_one : (a b : Bool) → not (a || b) ≡ true → a ≡ true → ⊥
     neither_one true b n t = true≢false (sym n)

@@ -1,9 +1,9 @@
 -- What occurs in proper axioms is proper.
-use Rattle.std.proofs.Common.{◌≡◌, true, false, ◌&&◌, ◌⊎◌, Bool, inl, inr, List, [], ◌∷◌, ℕ, refl, sym, ap, subst, ◌∙◌}
+use Rattle.std.proofs.Common.{◌≡◌, true, false, Bool, inl, inr, List, [], ◌∷◌, ℕ, refl, sym, ap, subst, ◌∙◌}
 use Rattle.std.specs.List.{list_all}
-use Rattle.fact_rows.specs.Member.{In, here, there}
+use Rattle.fact_rows.specs.Member.{In}
 use Rattle.fact_rows.proofs.Members.{and_parts, contains_from_in, from_flat_map, in_cons, in_none, in_one}
-use Rattle.owl_axioms.proofs.Layers.{proper_of_all, proper_of_and, proper_of_class, proper_of_exact, proper_of_max, proper_of_min, proper_of_not, proper_of_nothing, proper_of_or, proper_of_some, proper_of_thing}
+use Rattle.owl_axioms.proofs.Layers.{proper_of_all, proper_of_exact, proper_of_max, proper_of_min, proper_of_not, proper_of_nothing, proper_of_or, proper_of_some, proper_of_thing}
 use Rattle.owl_axioms.proofs.Making.{are_proper_operands-is}
 use Rattle.owl_axioms.proofs.Members.{In-contains, passes}
 use Rattle.owl_axioms.proofs.NamedClasses.{is_proper-named}
@@ -20,7 +20,7 @@ use Rattle.owl_axioms.specs.declared.expr.ClassExpr.TheViews.{out-ClassExpr, rol
 use Rattle.owl_axioms.specs.declared.name.Kind.TheVariants as kind
 use Rattle.expr_pool.specs.Part.{layer_parts, parts_of}
 use Rattle.el_rules.specs.ElPart.{el_bodies, if_el, is_el}
-use Rattle.el_rules.specs.Occurs.{IsDeclared, Occurs, declared, exprs_in, nothing, part, standing, thing}
+use Rattle.el_rules.specs.Occurs.{Occurs, declared, exprs_in, nothing, part, standing, thing}
 use Rattle.el_part.proofs.Parts.{class_is_named}
 use Rattle.relax_axioms.proofs.Wanted.{body_proper, operands_proper, pair_proper}
 

@@ -89,12 +89,7 @@ fn named_class<'a>(part: &ElPart, pool: &'a Pool, number: u32) -> Option<&'a Iri
 }
 
 /// Adds the edge between two classes.
-fn push_between(
-    alloc: Global,
-    sub: &Iri,
-    sup: &Iri,
-    edges: &mut Vec<Edge>,
-) -> Result<(), NoMemory>
+fn push_between(alloc: Global, sub: &Iri, sup: &Iri, edges: &mut Vec<Edge>) -> Result<(), NoMemory>
     ensures { OnOk result (edges.new.items ≡ edges.old.items ++ edge_between (Some sub.now) (Some sup.now)) }
 {
     let sub = sub.copy(alloc)?;

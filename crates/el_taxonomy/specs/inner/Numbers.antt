@@ -1,5 +1,5 @@
 -- Classes by the numbers of a table. (Own.)
-use Rattle.std.specs.Prelude.{ℕ, ◌≡◌, ◌<◌, ◌⊎◌, ◌↔◌, Bool, List, [], Option, None, Some, length, map, slice_get}
+use Rattle.std.specs.Prelude.{ℕ, ◌≡◌, ◌<◌, ◌⊎◌, ◌↔◌, Bool, List, Option, None, Some, length, map, slice_get}
 use Rattle.fact_rows.specs.Marks.{IsFlagged}
 use Rattle.fact_rows.specs.Member.{In}
 use Rattle.fact_rows.specs.Rows.{row}

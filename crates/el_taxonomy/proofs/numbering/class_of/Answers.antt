@@ -1,4 +1,4 @@
-use Rattle.std.proofs.Common.{◌≡◌, ◌<◌, arith, sym, ◌∙◌}
+use Rattle.std.proofs.Common.{arith}
 use Rattle.fact_rows.proofs.Places.{in_from_get}
 use Rattle.el_taxonomy.proofs.Numbers.{cell_none, cell_number, match_more, past_none}
 use Rattle.el_taxonomy.proofs.numbering.class_of.Goals as goal

@@ -1,4 +1,4 @@
-use Rattle.std.proofs.Common.{◌≡◌, ap, refl, subst, sym, ◌∙◌, Some, List, ℕ}
+use Rattle.std.proofs.Common.{refl, subst, sym, Some, ℕ}
 use Rattle.std.proofs.lemmas.Option.{MatchOption-at_none, MatchOption-at_some}
 use Rattle.rel_io.proofs.Options.{same_there}
 use Rattle.el_taxonomy.specs.inner.Numbers.{IsNumberOf, exprs_of}

@@ -1,4 +1,4 @@
-use Rattle.std.proofs.Common.{◌≡◌, ap, refl, subst, sym, ◌∙◌}
+use Rattle.std.proofs.Common.{refl, subst, sym, ◌∙◌}
 use Rattle.rel_io.proofs.Options.{none_there}
 use Rattle.el_taxonomy.specs.inner.Numbers.{FlagsMore, declared_in, exprs_of}
 use Rattle.el_taxonomy.proofs.Flags.{flags_same}

@@ -1,4 +1,4 @@
-use Rattle.std.proofs.Common.{◌≡◌, None, Some, ap, subst, sym, ◌∙◌, MatchOption, ℕ}
+use Rattle.std.proofs.Common.{subst, sym, ◌∙◌, MatchOption, ℕ}
 use Rattle.el_taxonomy.specs.inner.Numbers.{IsNumberOf, exprs_of}
 use Rattle.el_taxonomy.proofs.Numbers.{number_found, number_none}
 use Rattle.el_taxonomy.proofs.numbering.number_of.Goals as goal

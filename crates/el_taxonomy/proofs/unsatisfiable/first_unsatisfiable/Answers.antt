@@ -1,4 +1,4 @@
-use Rattle.std.proofs.Common.{◌≡◌, ◌≤◌, arith, length}
+use Rattle.std.proofs.Common.{◌≡◌, arith, length}
 use Rattle.el_taxonomy.proofs.Found.{judge}
 use Rattle.el_taxonomy.proofs.unsatisfiable.first_unsatisfiable.Goals as goal
 

@@ -1,4 +1,4 @@
-use Rattle.std.proofs.Common.{◌≡◌, ◌<◌, ℕ, sym, true≢false, ◌∙◌}
+use Rattle.std.proofs.Common.{◌<◌, ℕ, sym, true≢false, ◌∙◌}
 use Rattle.std.proofs.lemmas.Option.{MatchOption-at_none, MatchOption-at_some}
 use Rattle.el_taxonomy.specs.inner.Least.{Declared, IsEmptyAt, IsLeastAt}
 use Rattle.el_taxonomy.proofs.Least.{chooses, empty_there, skips, starts, there_empty}
