@@ -8,15 +8,15 @@ use Rattle.release_chain.proofs.Reasonings.{is_within, refusal_answers, step_ans
 use Rattle.release_chain.proofs.StepLaws.{changed_is_at}
 use Rattle.release_chain.proofs.inference.reasoned.Goals as goal
 
-pub returns-in_ok-entries-clause-answer : goal.returns-in_ok-entries-clause-answer
-returns-in_ok-entries-clause-answer c trace at =
+pub returns-in_ok-entries-in-Ok-clause-answer : goal.returns-in_ok-entries-in-Ok-clause-answer
+returns-in_ok-entries-in-Ok-clause-answer c trace at =
     let said = c.in-Ok.said in
     let after = c.reason.new.ontology in
     record {
       state = reasoned_trace trace after said.added said.unused;
       answered = step_answers trace c.args.work.ontology c.release.result.facts (Reasoned after said.added said.unused) at.ontology (ap (λ (l : Limits). l.facts) c.release.ensures)
           ((c.reason_of_is_the_answer.ensures c.args.work.ontology c.release.result.facts (Reasoned after said.added said.unused)).0 c.in-Ok.ensures.reasoned);
-      seen = changed_is_at c.args.work _ trace after (entry.Reasoned said.added said.unused) at refl refl c.in_ok-entries.ensures.made c.in-Ok.ensures.keeps;
+      seen = changed_is_at c.args.work _ trace after (entry.Reasoned said.added said.unused) at refl refl c.in_ok-entries-in-Ok.ensures.made c.in-Ok.ensures.keeps;
     }
 
 -- the refusal is one of the ontology as it was, which is the one that is there

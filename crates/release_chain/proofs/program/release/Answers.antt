@@ -4,7 +4,7 @@ use Rattle.std.specs.String.{string_bytes}
 use Rattle.release_report.specs.declared.fault.Fault.{Fault}
 use Rattle.release_report.specs.Cause.{cause_of}
 use Rattle.release_chain.specs.Release.{CauseCounted, Stopped, outside}
-use Rattle.release_chain.proofs.Clauses.{complete, counts, nothing_else, out, stops, words_refused}
+use Rattle.release_chain.proofs.Clauses.{complete, counts, nothing_else, out, reported, stops, words_refused}
 use Rattle.release_chain.specs.Run.{OfRun, asked}
 use Rattle.release_chain.proofs.Held.{released}
 use Rattle.release_chain.proofs.program.release.Goals as goal
@@ -56,4 +56,10 @@ pub returns-in-Ok-clause-complete : goal.returns-in-Ok-clause-complete
 returns-in-Ok-clause-complete g c failed memory =
     rw c.with.ensures.fault
     (nothing_else (map string_bytes c.args.words.now.items) (outside (g.F.Folder.state c.args.folder.now) (g.O.Sink.state c.args.out.now) (g.E.Sink.state c.args.err.now))
+    (outside (g.F.Folder.state c.finish.new.folder) (g.O.Sink.state c.finish.new.out) (g.E.Sink.state c.args.err.now)) c.in-Ok.ensures)
+
+pub returns-in-Ok-clause-out : goal.returns-in-Ok-clause-out
+returns-in-Ok-clause-out g c =
+    rw c.with.ensures.fault
+    (reported (map string_bytes c.args.words.now.items) (outside (g.F.Folder.state c.args.folder.now) (g.O.Sink.state c.args.out.now) (g.E.Sink.state c.args.err.now))
     (outside (g.F.Folder.state c.finish.new.folder) (g.O.Sink.state c.finish.new.out) (g.E.Sink.state c.args.err.now)) c.in-Ok.ensures)
