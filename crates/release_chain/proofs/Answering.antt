@@ -1,9 +1,9 @@
 -- How one answer and what comes of it are answered.
-use Rattle.std.proofs.Common.{◌≡◌, ◌⊎◌, List, Option, Some, None, Result, Ok, Err, IfSome, refl, ap, subst, sym, ◌∙◌, ⊎_elim, ℕ}
+use Rattle.std.proofs.Common.{◌≡◌, Result, Ok, Err, ap, subst, sym}
 use Rattle.release_report.specs.Cause.{Cause, Words, Refused, Absent, NotRead, NotWritten, NotReported, RanOut, cause_of}
 use Rattle.release_report.specs.declared.fault.Fault.{Fault}
 use Rattle.release_report.specs.declared.fault.Fault.TheVariants as fault
-use Rattle.release_chain.specs.Answer.{Answers, AnswersAs, FailsBy, then_answer}
+use Rattle.release_chain.specs.Answer.{AnswersAs, FailsBy, then_answer}
 
 pub fails_first : {A B : Type 0} (cause : Cause) (first : Result A Fault) (next : A → Result B Fault) (one : Fault) → FailsBy cause first one → FailsBy cause (then_answer first next) one
 fails_first Words first next one fails = fails

@@ -1,6 +1,6 @@
 -- What the words ask for.
-use Rattle.std.proofs.Common.{◌≡◌, Option, Some, None, Result, Ok, Err, refl, sym, ap, subst, inl, inr, ◌⊎◌}
-use Rattle.rel_io.specs.FolderState.{Files, FolderState}
+use Rattle.std.proofs.Common.{◌≡◌, None, Result, Ok, Err, refl, sym, subst, inl, inr}
+use Rattle.rel_io.specs.FolderState.{FolderState}
 use Rattle.chain_words.specs.Fault.{Reading}
 use Rattle.chain_words.specs.declared.command.Command.{Command}
 use Rattle.chain_words.specs.declared.command.Command.TheVariants.{Run, Generate}
@@ -9,7 +9,6 @@ use Rattle.release_report.specs.declared.fault.Fault.{Fault}
 use Rattle.release_report.specs.declared.fault.Fault.TheVariants as fault
 use Rattle.release_chain.specs.Steps.{chain_part}
 use Rattle.release_chain.specs.Run.{asked_by}
-use Rattle.release_chain.specs.declared.work.Work.{Work}
 use Rattle.release_chain.specs.inner.Finish.{AskFails, WordsEnd}
 use Rattle.release_chain.proofs.Parts.{ran_out_first}
 

@@ -1,6 +1,5 @@
 -- How a chain ends.
-use Rattle.std.proofs.Common.{◌≡◌, ℕ, Bool, true, false, ◌||◌, List, [], ◌∷◌, ◌++◌, Option, Some, None, Result, Ok, Err, refl, sym, ap, subst, ◌∙◌}
-use Rattle.std.specs.List.{flat_map, list_any}
+use Rattle.std.proofs.Common.{◌≡◌, Bool, true, false, [], ◌++◌, Option, Some, Result, Ok, Err, refl}
 use Rattle.rel_io.specs.FolderState.{Files}
 use Rattle.owl_ontology.specs.Ontology.{OntologyState}
 use Rattle.chain_words.specs.Command.{is_one_of, output_names, read_names, written_names}
@@ -9,10 +8,10 @@ use Rattle.chain_words.specs.Laws.{NoOutputIsInput}
 use Rattle.chain_words.specs.Word.{Name, same}
 use Rattle.chain_words.specs.declared.command.Chain.{Chain}
 use Rattle.release_report.specs.declared.fault.Fault.{Fault}
-use Rattle.release_chain.specs.Ending.{Did, Ends, IsTold, SameAt, SameAtAll}
-use Rattle.release_chain.specs.Part.{Opens, Part, then_do}
+use Rattle.release_chain.specs.Ending.{Did, Ends, IsTold, SameAtAll}
+use Rattle.release_chain.specs.Part.{Part, then_do}
 use Rattle.release_chain.specs.Trace.{Trace, load_part, sources_of}
-use Rattle.release_chain.specs.Steps.{chain_part, output_part, steps_part}
+use Rattle.release_chain.specs.Steps.{output_part, steps_part}
 use Rattle.release_chain.specs.declared.work.Work.{Work}
 use Rattle.release_chain.specs.inner.Finish.{ChainEnds, LoadEnds}
 use Rattle.release_chain.specs.inner.Names.{AreApart, all_read, all_written, put_names}

@@ -1,9 +1,9 @@
 -- The clauses of the top call, from how the run and its report ended.
-use Rattle.std.proofs.Common.{◌≡◌, ℕ, List, [], ◌∷◌, Option, Some, None, Result, Ok, Err, IfSome, IfOk, IfErr, refl, sym, ap, subst, ◌∙◌, inl, inr, ◌⊎◌, ⊎_elim}
+use Rattle.std.proofs.Common.{◌≡◌, List, [], Option, Some, None, Result, Ok, Err, IfOk, IfErr, refl, sym, ap, subst, ◌∙◌, inl, inr, ◌⊎◌, ⊎_elim}
 use Rattle.std.specs.Result.{result_err}
 use Rattle.std.proofs.lemmas.List.{append-nil}
 use Rattle.rel_io.specs.FolderState.{Files, FolderState}
-use Rattle.rel_io.specs.Sink.{Appends, SinkState, WritesPart}
+use Rattle.rel_io.specs.Sink.{Appends}
 use Rattle.chain_words.specs.Read.{chain}
 use Rattle.chain_words.specs.Word.{Word}
 use Rattle.chain_words.specs.declared.command.Chain.{Chain}
@@ -15,14 +15,14 @@ use Rattle.release_report.specs.declared.fault.Fault.{Fault}
 use Rattle.release_report.specs.declared.fault.Fault.TheVariants as fault
 use Rattle.release_chain.specs.Answer.{FailsBy}
 use Rattle.release_chain.specs.Generated.{generated_answer}
-use Rattle.release_chain.specs.Ending.{Caused, Counted, Ends, IsCut, IsDone, IsTold, StopsBy}
+use Rattle.release_chain.specs.Ending.{Counted, StopsBy}
 use Rattle.release_chain.specs.Part.{Part, answers}
 use Rattle.release_chain.specs.Release.{CauseCounted, Counts, EndsAs, IsWordsRefused, NothingFailed, OutBy, Outside, ReportIs, ReportedPart, Stopped, WordsRefused}
 use Rattle.release_chain.specs.Trace.{Trace}
 use Rattle.release_chain.specs.Steps.{chain_part}
 use Rattle.release_chain.specs.Run.{OfChain, OfRun, OfTold, asked, generated_part}
 use Rattle.release_chain.specs.declared.work.Work.{Work}
-use Rattle.release_chain.specs.inner.Finish.{FinishFails, Finishes, IsReported, WordsEnd}
+use Rattle.release_chain.specs.inner.Finish.{FinishFails, IsReported, WordsEnd}
 use Rattle.release_chain.specs.inner.Work.{IsAt}
 use Rattle.release_chain.proofs.Asked.{asked_words, ran_out_is}
 

@@ -1,29 +1,21 @@
 -- How the parts of `generate` answer.
-use Rattle.std.proofs.Common.{◌≡◌, ◌⊎◌, ℕ, List, [], ◌∷◌, true, Option, Some, None, Result, Ok, Err, IfOk, IfSome, refl, sym, ap, subst, ◌∙◌, ⊎_elim}
-use Rattle.rel_io.specs.Limits as limits
-use Rattle.obo_frames.specs.Answer.{document_of}
-use Rattle.obo_frames.specs.declared.placed.Placed.{Placed}
-use Rattle.obo_frames.specs.declared.fault.DocFault.{DocFault}
-use Rattle.obo_frames.specs.declared.fault.DocFault.TheVariants as doc
-use Rattle.obo_mapping.specs.TwoValues.{TwoGiven, two_values}
+use Rattle.std.proofs.Common.{◌≡◌, ◌⊎◌, ℕ, List, true, None, Result, Ok, Err, sym, ap, subst, ◌∙◌, ⊎_elim}
+use Rattle.obo_mapping.specs.TwoValues.{two_values}
 use Rattle.owl_ontology.specs.Ontology.{OntologyState}
 use Rattle.chain_words.specs.Word.{Name}
-use Rattle.import_closure.specs.Closure.{document_answer, fault_in}
-use Rattle.import_closure.specs.declared.files.SourceFile.{SourceFile}
-use Rattle.import_merge.specs.Merged.{IsMerged}
-use Rattle.release_report.specs.Cause.{Cause, Refused, cause_of}
+use Rattle.release_report.specs.Cause.{cause_of}
 use Rattle.release_report.specs.declared.fault.Fault.{Fault}
 use Rattle.release_report.specs.declared.fault.Fault.TheVariants as fault
-use Rattle.release_chain.specs.Answer.{Answers, AnswersAs, FailsBy, then_answer}
-use Rattle.release_chain.specs.Generated.{IsGeneratedOrder, begun_in, begun_or, generated_source, printed_or, printed_trace, released_or, source_or}
+use Rattle.release_chain.specs.Answer.{AnswersAs, FailsBy, then_answer}
+use Rattle.release_chain.specs.Generated.{begun_or, printed_or, printed_trace, released_or}
 use Rattle.release_chain.specs.Steps.{none_or}
-use Rattle.release_chain.specs.Trace.{Trace, fault_of_load}
+use Rattle.release_chain.specs.Trace.{Trace}
 use Rattle.release_chain.specs.declared.work.Work.{Work}
 use Rattle.release_chain.specs.inner.Finish.{GeneratedEnds}
-use Rattle.release_chain.specs.inner.Generating.{BegunEnds, MergedEnds}
+use Rattle.release_chain.specs.inner.Generating.{BegunEnds}
 use Rattle.release_chain.specs.inner.Texts.{BlamesTwo}
 use Rattle.release_chain.specs.inner.Work.{IsAt}
-use Rattle.release_chain.proofs.Answering.{answered_then, fails_first, refused_first}
+use Rattle.release_chain.proofs.Answering.{answered_then, refused_first}
 use Rattle.release_chain.proofs.Outputs.{checked_refuses, refused_two}
 
 -- ---- all of it
@@ -52,7 +44,7 @@ text_refused files o trace one is named told =
     (λ blames.
     let refusal = refused_two files o true one blames in
     let here : none_or trace.files (two_values trace.ontology.name true trace.ontology.entries) ≡ Err one =
-        (λ i. none_or (sym named i) (two_values (sym is i).name true (sym is i).entries)) ∙ refusal in
+    (λ i. none_or (sym named i) (two_values (sym is i).name true (sym is i).entries)) ∙ refusal in
     subst (λ cause. FailsBy cause (printed_or trace) one) (sym (checked_refuses files o true one refusal)) (ap (λ told. then_answer told (λ _. Ok (printed_trace trace))) here))
     told
 

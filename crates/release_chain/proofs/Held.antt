@@ -1,8 +1,7 @@
 -- What a run wrote is held at its end.
-use Rattle.std.proofs.Common.{◌≡◌, ℕ, ◌+◌, ◌≤◌, Bool, true, false, ◌||◌, cond, List, [], ◌∷◌, ◌++◌, Option, Some, None, Result, Ok, Err, IfSome, IfOk, refl, sym, ap, subst, ◌∙◌, length, filter, arith}
+use Rattle.std.proofs.Common.{◌≡◌, ◌≤◌, Bool, true, false, ◌||◌, cond, List, [], ◌∷◌, Option, Some, Result, Ok, Err, IfSome, refl, sym, ap, subst, ◌∙◌, length, filter, arith}
 use Rattle.std.specs.Cmp.Lexicographic.{bytes_decides}
 use Rattle.std.specs.FinMap.{get, insert}
-use Rattle.std.specs.List.{flat_map, list_any}
 use Rattle.rel_io.specs.FolderState.{Files, FolderState}
 use Rattle.owl_ontology.specs.Ontology.{OntologyState}
 use Rattle.chain_words.specs.Command.{is_one_of, output_names, times, writes_of, written_names}
@@ -13,7 +12,7 @@ use Rattle.chain_words.specs.declared.command.Command.{Command}
 use Rattle.chain_words.specs.declared.command.Command.TheVariants.{Run, Generate}
 use Rattle.release_report.specs.declared.fault.Fault.{Fault}
 use Rattle.release_chain.specs.Ending.{Did, IsTold, SameAt}
-use Rattle.release_chain.specs.Part.{Act, Opens, Output, Puts}
+use Rattle.release_chain.specs.Part.{Act, Opens, Puts}
 use Rattle.release_chain.specs.Release.{IsReleased, PutsAll}
 use Rattle.release_chain.specs.Trace.{Trace}
 use Rattle.release_chain.specs.Steps.{chain_part, steps_part, turn_part}

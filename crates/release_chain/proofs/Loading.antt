@@ -1,10 +1,9 @@
 -- How the reading of the inputs ends.
-use Rattle.std.proofs.Common.{◌≡◌, ℕ, List, [], ◌∷◌, ◌++◌, map, Option, Some, None, IfSome, IfOk, Result, Ok, Err, Contains, suc, take, drop, refl, sym, ap, subst, ◌∙◌}
+use Rattle.std.proofs.Common.{◌≡◌, List, [], ◌∷◌, ◌++◌, map, Option, Some, None, IfOk, Result, Ok, Err, Contains, suc, take, drop, refl, sym, ap, subst, ◌∙◌}
 use Rattle.std.proofs.Math.Seq.{drop-cons}
 use Rattle.std.proofs.lemmas.List.{append-nil, map-append, take-append-drop}
 use Rattle.rel_io.proofs.Options.{at_some}
 use Rattle.rel_io.specs.FolderState.{Files, FolderState}
-use Rattle.owl_ontology.specs.Ontology.{OntologyState}
 use Rattle.chain_words.specs.Word.{Name}
 use Rattle.chain_words.specs.declared.command.Chain.{Chain}
 use Rattle.import_closure.specs.Loading.{GivesAs, IsRefusal, Loading, LoadsAs}
@@ -12,14 +11,14 @@ use Rattle.import_closure.specs.declared.fault.LoadFault.{LoadFault}
 use Rattle.import_closure.specs.declared.fault.LoadFault.TheVariants as load
 use Rattle.import_closure.specs.declared.files.SourceFile.{SourceFile}
 use Rattle.import_merge.specs.Merged.{IsMerged}
-use Rattle.import_merge.specs.Notes.{IsLoaded, file_note}
+use Rattle.import_merge.specs.Notes.{IsLoaded}
 use Rattle.import_merge.specs.declared.merged.Merged.{Merged}
 use Rattle.release_report.specs.Cause.{cause_of}
 use Rattle.release_report.specs.declared.fault.Fault.{Fault}
 use Rattle.release_chain.specs.Answer.{AnswersAs}
 use Rattle.release_chain.specs.Ending.{Did, Ends, IsDone, StopsBy}
-use Rattle.release_chain.specs.Part.{Act, Opens, Part, answers}
-use Rattle.release_chain.specs.Trace.{IsOrder, Trace, fault_of_load, load_part, merged_or, merged_trace, sources_of}
+use Rattle.release_chain.specs.Part.{Act, Opens, answers}
+use Rattle.release_chain.specs.Trace.{Trace, fault_of_load, load_part, merged_or, merged_trace, sources_of}
 use Rattle.release_chain.specs.declared.work.Work.{Work}
 use Rattle.release_chain.specs.inner.Finish.{LoadEnds}
 use Rattle.release_chain.specs.inner.Names.{put_names}

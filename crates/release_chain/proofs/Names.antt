@@ -1,8 +1,8 @@
 -- The names of the files that acts put, and what a folder holds of other names.
-use Rattle.std.proofs.Common.{◌≡◌, ℕ, Bool, true, false, ◌||◌, cond, List, [], ◌∷◌, ◌++◌, Option, Some, None, Result, Ok, Err, refl, sym, ap, subst, ◌∙◌}
+use Rattle.std.proofs.Common.{◌≡◌, ℕ, Bool, true, false, ◌||◌, cond, List, [], ◌∷◌, ◌++◌, Option, Some, Result, Ok, Err, refl, sym, ap, subst, ◌∙◌}
 use Rattle.std.proofs.lemmas.Cmp.{nat_list_cmp_total}
 use Rattle.std.specs.Cmp.{unsigned_tied}
-use Rattle.std.specs.Cmp.Lexicographic.{bytes_decides, lists_ties, slice_cmp}
+use Rattle.std.specs.Cmp.Lexicographic.{bytes_decides, lists_ties}
 use Rattle.std.specs.FinMap.{get, get-insert, insert}
 use Rattle.std.specs.Option.{option_map}
 use Rattle.std.specs.Ordering.{nat_cmp}
@@ -13,7 +13,7 @@ use Rattle.chain_words.specs.Word.{Name}
 use Rattle.release_report.specs.declared.fault.Fault.{Fault}
 use Rattle.release_chain.specs.Ending.{Did, SameAt}
 use Rattle.release_chain.specs.inner.Names.{put_names}
-use Rattle.release_chain.specs.Part.{Act, Opens, Output, Part, Puts, then_by}
+use Rattle.release_chain.specs.Part.{Act, Opens, Part, Puts, then_by}
 
 -- what is held of a name behind a put
 pub get_put : (files : Files) (put : Name) (bytes : List ℕ) (name : Name) → get (insert files put bytes) name ≡ cond (same name put) (Some bytes) (get files name)

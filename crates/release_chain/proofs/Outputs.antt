@@ -1,21 +1,21 @@
 -- How the writing of an output ends.
-use Rattle.std.proofs.Common.{◌≡◌, ◌⊎◌, ℕ, Bool, List, [], ◌∷◌, ◌++◌, Option, Some, None, Result, Ok, Err, refl, sym, ap, subst, ◌∙◌, length, ⊎_elim}
+use Rattle.std.proofs.Common.{◌≡◌, ℕ, Bool, List, Option, Some, None, Result, Ok, Err, refl, sym, ap, subst, ◌∙◌, ⊎_elim}
 use Rattle.rel_io.specs.FolderState.{Files, FolderState}
-use Rattle.owl_ontology.specs.Ontology.{OntologyState, axioms_of}
+use Rattle.owl_ontology.specs.Ontology.{OntologyState}
 use Rattle.chain_words.specs.declared.command.Format.{Format}
 use Rattle.chain_words.specs.declared.command.Format.TheVariants.{Obo, Ofn}
 use Rattle.chain_words.specs.declared.command.Output.{Output as Wanted}
 use Rattle.obo_mapping.specs.TwoValues.{TwoGiven, two_values}
-use Rattle.release_report.specs.Cause.{Refused, RanOut, cause_of}
+use Rattle.release_report.specs.Cause.{Refused, cause_of}
 use Rattle.release_report.specs.declared.fault.Fault.{Fault}
 use Rattle.release_report.specs.declared.fault.Fault.TheVariants as fault
 use Rattle.release_chain.specs.Ending.{Caused, Counted, Ends, IsTold}
-use Rattle.release_chain.specs.Outputs.{Fits, Made, ReadsAgain, text_of}
+use Rattle.release_chain.specs.Outputs.{Fits, ReadsAgain, text_of}
 use Rattle.release_chain.specs.Part.{Part, answers, gives, puts, then_do}
 use Rattle.release_chain.specs.Trace.{Trace}
 use Rattle.release_chain.specs.Steps.{checked, fault_of_two, made_of, none_or, output_of, with_written, write_part}
 use Rattle.release_chain.specs.declared.work.Work.{Work}
-use Rattle.release_chain.specs.inner.Texts.{BlamesTwo, IsTextFor, NoTextFor, TextsOf}
+use Rattle.release_chain.specs.inner.Texts.{BlamesTwo, IsTextFor, NoTextFor}
 use Rattle.release_chain.specs.inner.Work.{IsAt}
 use Rattle.release_chain.proofs.Parts.{answered_ends, first_fails, ran_out_first, some_trace, some_trace-is_at, then_ends}
 

@@ -1,12 +1,12 @@
 -- How the endings of parts make the ending of what is put together of them.
-use Rattle.std.proofs.Common.{◌≡◌, ℕ, List, [], ◌∷◌, ◌++◌, Option, Some, None, Result, Ok, Err, refl, sym, ap, subst, ◌∙◌, arith, append_assoc}
+use Rattle.std.proofs.Common.{◌≡◌, List, [], ◌∷◌, ◌++◌, Option, Result, Ok, Err, refl, sym, ap, subst, ◌∙◌, arith, append_assoc}
 use Rattle.std.proofs.lemmas.List.{append-nil}
 use Rattle.rel_io.specs.FolderState.{Files, FolderState, NoCountFell}
 use Rattle.release_report.specs.Cause.{Cause, Words, Refused, Absent, NotRead, NotWritten, NotReported, RanOut, cause_of}
 use Rattle.release_report.specs.declared.fault.Fault.{Fault}
 use Rattle.release_chain.specs.Answer.{Answers, AnswersAs, FailsBy}
 use Rattle.release_chain.specs.Ending.{Caused, Counted, Did, Ends, IsDone, IsTold, StopsBy}
-use Rattle.release_chain.specs.Part.{Act, Opens, Output, Part, Puts, answers, then_by, then_do}
+use Rattle.release_chain.specs.Part.{Act, Opens, Part, Puts, answers, then_by, then_do}
 use Rattle.release_chain.specs.Trace.{Trace}
 use Rattle.release_chain.specs.inner.Work.{IsAt}
 use Rattle.owl_axioms.specs.Names.{all_names}

@@ -1,5 +1,5 @@
 -- How the step reason answers.
-use Rattle.std.proofs.Common.{◌≡◌, ◌⊎◌, ◌<◌, ℕ, List, [], ◌∷◌, ◌++◌, Option, Some, None, Result, Ok, Err, length, slice_get, map, refl, sym, ap, subst, ◌∙◌, inl, inr, ⊎_elim}
+use Rattle.std.proofs.Common.{◌≡◌, ℕ, List, Option, Some, None, Result, Err, slice_get, refl, sym, ap, subst, ◌∙◌, ⊎_elim}
 use Rattle.std.specs.Option.{option_map}
 use Rattle.std.proofs.lemmas.Option.{same_Some, slice_get-map, slice_get_within}
 use Rattle.rel_io.specs.Limits as limits
@@ -12,12 +12,11 @@ use Rattle.el_taxonomy.specs.declared.fault.ReasonFault.{ReasonFault}
 use Rattle.el_taxonomy.specs.declared.fault.ReasonFault.TheVariants as reasons
 use Rattle.plain_reasoning.specs.Laws.{ReasonOfIsTheAnswer}
 use Rattle.plain_reasoning.specs.Reason.{Reasoning, TooManyFacts, Unsatisfiable, reason_of}
-use Rattle.release_report.specs.Cause.{Cause, Refused, cause_of}
-use Rattle.release_report.specs.declared.entry.Entry.TheVariants as entry
+use Rattle.release_report.specs.Cause.{Refused, cause_of}
 use Rattle.release_report.specs.declared.fault.Fault.{Fault}
 use Rattle.release_report.specs.declared.fault.Fault.TheVariants as fault
 use Rattle.release_chain.specs.Answer.{FailsBy}
-use Rattle.release_chain.specs.Steps.{declared_name, fault_of_empty, file_at, reasoned_by, reasoned_or, reasoned_trace}
+use Rattle.release_chain.specs.Steps.{declared_name, fault_of_empty, file_at, reasoned_by, reasoned_or}
 use Rattle.release_chain.specs.Trace.{Trace}
 use Rattle.release_chain.specs.inner.Inference.{IsRefusal, IsWithin}
 
@@ -49,7 +48,7 @@ refusal_answers trace files before limit (reasons.Unsatisfiable at) one plain is
     (λ same.
     let empty = fault_of_empty files (slice_get before.entries at) in
     let answer : reasoned_or trace ≡ Err empty =
-        step_answers trace before limit (Unsatisfiable at) is bound ((plain before limit (Unsatisfiable at)).0 refused) ∙ (λ i. Err (fault_of_empty (sym named i) (slice_get (sym is i).entries at))) in
+    step_answers trace before limit (Unsatisfiable at) is bound ((plain before limit (Unsatisfiable at)).0 refused) ∙ (λ i. Err (fault_of_empty (sym named i) (slice_get (sym is i).entries at))) in
     subst (λ one. FailsBy (cause_of one) (reasoned_or trace) one) (sym same)
     (subst (λ cause. FailsBy cause (reasoned_or trace) empty) (sym (empty_refused files (slice_get before.entries at))) answer))
     told

@@ -1,12 +1,11 @@
 -- The seed of a term file.
-use Rattle.std.proofs.Common.{◌≡◌, ◌<◌, ℕ, List, [], ◌∷◌, Ok, Result, ap, arith, length, refl, sym, ◌∙◌}
+use Rattle.std.proofs.Common.{◌≡◌, ◌<◌, ℕ, List, [], ◌∷◌, Ok, ap, arith, length, sym, ◌∙◌}
 use Rattle.std.specs.List.{flat_map}
 use Rattle.iri_map.specs.Ontology.{name_or_temp}
 use Rattle.rel_io.specs.Limits as limits
 use Rattle.owl_axioms.specs.Signature.{added, no_names}
 use Rattle.owl_ontology.specs.Ontology.{OntologyState}
 use Rattle.chain_words.specs.Word.{Name}
-use Rattle.release_report.specs.declared.fault.Fault.{Fault}
 use Rattle.seed_list.specs.Seed.{HasSeed, IsSeedOf, names_of}
 use Rattle.seed_list.specs.Terms.{iris_of}
 use Rattle.seed_list.specs.declared.seed.Seed.{Seed}

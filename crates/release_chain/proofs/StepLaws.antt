@@ -1,25 +1,22 @@
 -- The laws of the steps: what they make keeps the merged axioms over their scope.
-use Rattle.std.proofs.Common.{◌≡◌, ◌&&◌, ◌||◌, ℕ, Bool, true, false, List, [], ◌∷◌, ◌++◌, Option, Some, None, Result, Ok, Err, ap, refl, subst, sym, ◌∙◌}
+use Rattle.std.proofs.Common.{◌≡◌, ◌&&◌, ◌||◌, ℕ, Bool, true, false, List, [], ◌∷◌, ◌++◌, Option, ap, refl, subst, sym, ◌∙◌}
 use Rattle.std.specs.Cmp.Lexicographic.{bytes_decides}
 use Rattle.rel_io.specs.FolderState.{Files}
 use Rattle.owl_axioms.specs.Names.{Scope, all_names, common}
 use Rattle.owl_axioms.specs.Signature.{scope_of}
 use Rattle.owl_axioms.specs.declared.body.Axiom.{Axiom}
-use Rattle.owl_axioms.specs.declared.name.Kind.{Kind}
 use Rattle.owl_ontology.specs.Ontology.{OntologyState, axioms_of}
 use Rattle.owl_sem.specs.Laws.{KeepBoth}
 use Rattle.owl_sem.specs.Models.{Keeps, KeepsAll}
 use Rattle.owl_sem.proofs.Keeps.{keeping_composes, keeping_less}
-use Rattle.chain_words.specs.Word.{Name, same}
+use Rattle.chain_words.specs.Word.{Name}
 use Rattle.chain_words.specs.declared.command.Method.{Method}
-use Rattle.extract_step.specs.Extract.{chosen, extracted}
-use Rattle.extract_step.specs.Known.{unknown_count}
+use Rattle.extract_step.specs.Extract.{extracted}
 use Rattle.reduce_edges.specs.Reduce.{reduce_of}
 use Rattle.relax_axioms.specs.Relax.{relax_of}
 use Rattle.release_report.specs.declared.entry.Entry.{Entry}
 use Rattle.release_report.specs.declared.entry.Entry.TheVariants as entry
 use Rattle.seed_list.specs.declared.seed.Seed.{Seed}
-use Rattle.release_chain.specs.Counts.{counts_of}
 use Rattle.release_chain.specs.Ending.{SameAt, SameAtAll}
 use Rattle.release_chain.specs.Trace.{Trace}
 use Rattle.release_chain.specs.Steps.{extracted_entry, extracted_trace, reduced_trace, relaxed_trace}

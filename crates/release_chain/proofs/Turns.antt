@@ -10,7 +10,7 @@ use Rattle.chain_words.specs.declared.command.Output.{Output as Wanted}
 use Rattle.chain_words.specs.declared.command.Step.{Step}
 use Rattle.chain_words.specs.declared.command.Step.TheVariants.{Extract, Reason, Relax, Reduce, Convert}
 use Rattle.release_report.specs.declared.fault.Fault.{Fault}
-use Rattle.release_chain.specs.Ending.{Ends, SameAt, SameAtAll}
+use Rattle.release_chain.specs.Ending.{Ends, SameAtAll}
 use Rattle.release_chain.specs.Part.{answers, reads, then_do}
 use Rattle.release_chain.specs.Trace.{Trace}
 use Rattle.release_chain.specs.Steps.{checked, extracted_or, output_part, seed_in, step_part, steps_part, turn_part}

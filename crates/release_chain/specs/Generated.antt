@@ -1,5 +1,5 @@
 -- What `generate` comes to: the steps of a release on the generated document of a size, in memory. (Own.)
-use Rattle.std.specs.Prelude.{ℕ, true, false, List, [], ◌∷◌, ◌++◌, codes, Option, Some, None, Result, Ok, Err, IfOk, length}
+use Rattle.std.specs.Prelude.{ℕ, true, false, [], ◌∷◌, ◌++◌, codes, Option, Some, None, Result, Ok, Err, IfOk, length}
 use Rattle.rel_io.specs.Limits as limits
 use Rattle.obo_frames.specs.Answer.{document_of}
 use Rattle.obo_gen.specs.Generated.{generated}

@@ -1,5 +1,5 @@
 -- A part of a run: what it does to the folder, in order, and what it answers. Runs are put together of parts. (Own.)
-use Rattle.std.specs.Prelude.{◌≡◌, ℕ, Bool, List, [], ◌∷◌, ◌++◌, Option, Some, None, Result, Ok, Err, length, nat_le, if◌then◌else◌}
+use Rattle.std.specs.Prelude.{ℕ, List, [], ◌∷◌, ◌++◌, Option, Some, None, Result, Ok, Err, length, nat_le, if◌then◌else◌}
 use Rattle.std.specs.FinMap.{get}
 use Rattle.rel_io.specs.FolderState.{Files}
 use Rattle.rel_io.specs.Limits as limits

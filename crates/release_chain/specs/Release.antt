@@ -2,7 +2,7 @@
 -- and after it. If a chain ends with status 0, each file that it wrote is the text of axioms that follow from the merged
 -- axioms, and every finite model of them agrees, on the same domain, over the names common to all seeds before it, with a
 -- model of the merged axioms; every other ending names its cause. (Own.)
-use Rattle.std.specs.Prelude.{◌≡◌, ◌≢◌, ◌⊎◌, ℕ, List, [], ◌∷◌, Option, Some, None, Result, Ok, Err, IfErr, IfOk, IfSome}
+use Rattle.std.specs.Prelude.{◌≡◌, ◌≢◌, ◌⊎◌, ℕ, List, [], ◌∷◌, Option, Some, None, Result, Err, IfErr, IfOk, IfSome}
 use Rattle.std.specs.FinMap.{get}
 use Rattle.std.specs.Result.{result_err}
 use Rattle.rel_io.specs.Count.{Rose}

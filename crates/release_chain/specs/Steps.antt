@@ -1,5 +1,5 @@
 -- The steps of a chain and their outputs: what each does, and what it comes to. (Own.)
-use Rattle.std.specs.Prelude.{ℕ, ◌+◌, Bool, List, [], ◌∷◌, ◌++◌, Option, Some, None, Result, Ok, Err, length, slice_get, unwrap_or}
+use Rattle.std.specs.Prelude.{ℕ, Bool, List, [], ◌∷◌, ◌++◌, Option, Some, None, Result, Ok, Err, length, slice_get, unwrap_or}
 use Rattle.std.specs.List.{flat_map}
 use Rattle.rel_io.specs.FolderState.{Files}
 use Rattle.rel_io.specs.Limits as limits

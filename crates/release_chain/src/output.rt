@@ -40,7 +40,12 @@ fn text_for(alloc: Global, work: &Work, file: &Output) -> Result<Bytes, Fault>
 }
 
 /// The OBO text of axioms, where the files have these names.
-pub fn obo_for(alloc: Global, ontology: &Ontology, files: &[Bytes], check: bool) -> Result<Bytes, Fault>
+pub fn obo_for(
+    alloc: Global,
+    ontology: &Ontology,
+    files: &[Bytes],
+    check: bool,
+) -> Result<Bytes, Fault>
     requires forms { IsSpellable ontology.now.name (axioms_of ontology.now.entries) }
     ensures { TextsOf files.now ontology.now check result }
 {

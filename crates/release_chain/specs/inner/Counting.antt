@@ -1,5 +1,5 @@
 -- Axioms counted one by one. No public contract speaks of it.
-use Rattle.std.specs.Prelude.{ℕ, ◌+◌, ◌^◌, ◌<◌}
+use Rattle.std.specs.Prelude.{◌+◌, ◌^◌, ◌<◌}
 use Rattle.owl_axioms.specs.declared.body.Body.{Body}
 use Rattle.owl_axioms.specs.declared.body.Body.TheVariants as body
 use Rattle.release_report.specs.declared.entry.Counts.{Counts}

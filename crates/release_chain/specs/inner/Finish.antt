@@ -16,8 +16,7 @@ use Rattle.release_report.specs.declared.fault.Fault.TheVariants.{NoMemory}
 use Rattle.release_chain.specs.Answer.{AnswersAs}
 use Rattle.release_chain.specs.Ending.{Caused, Ends}
 use Rattle.release_chain.specs.Generated.{IsGeneratedOrder, generated_answer}
-use Rattle.release_chain.specs.Part.{Part}
-use Rattle.release_chain.specs.Trace.{IsOrder, Trace, load_part}
+use Rattle.release_chain.specs.Trace.{IsOrder, load_part}
 use Rattle.release_chain.specs.Steps.{chain_part}
 use Rattle.release_chain.specs.inner.Work.{IsAt}
 use Rattle.release_chain.specs.declared.work.Work.{Work}

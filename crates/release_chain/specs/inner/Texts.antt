@@ -1,9 +1,8 @@
 -- What the making of a text answers. No public contract speaks of it.
-use Rattle.std.specs.Prelude.{◌≡◌, ◌⊎◌, ℕ, Bool, List, Option, None, Some, Result, Ok, Err}
+use Rattle.std.specs.Prelude.{◌≡◌, ◌⊎◌, ℕ, Bool, List, None, Some, Result, Ok, Err}
 use Rattle.owl_ontology.specs.Ontology.{OntologyState}
 use Rattle.owl_ontology.specs.declared.origin.Origin.{Origin}
 use Rattle.obo_mapping.specs.TwoValues.{TwoGiven, two_values}
-use Rattle.owl_to_obo.specs.Faults as back
 use Rattle.owl_to_obo.specs.declared.answer.BackFault.{BackFault}
 use Rattle.owl_to_obo.specs.declared.answer.BackFault.TheVariants as of_back
 use Rattle.obo_writer.specs.Text.{ReadsBack, obo_text}

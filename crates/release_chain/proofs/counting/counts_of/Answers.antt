@@ -1,4 +1,4 @@
-use Rattle.std.proofs.Common.{◌<◌, ◌+◌, ◌^◌, ◌≤◌, ap, arith, length, subst, sym, ◌∙◌}
+use Rattle.std.proofs.Common.{ap, arith, subst, sym, ◌∙◌}
 use Rattle.std.proofs.lemmas.List.{length-map}
 use Rattle.owl_ontology.specs.Ontology.{Entry, axioms_of}
 use Rattle.release_chain.specs.inner.Counting.{HaveRoom, counted}

@@ -1,4 +1,4 @@
-use Rattle.std.proofs.Common.{ap, sym, length, ◌∙◌}
+use Rattle.std.proofs.Common.{ap, length, ◌∙◌}
 use Rattle.std.proofs.lemmas.Result.{err_from_is_err_and}
 use Rattle.release_chain.proofs.Generating.{text_made, text_refused}
 use Rattle.release_chain.proofs.generated.printed.Goals as goal

@@ -1,4 +1,4 @@
-use Rattle.std.proofs.Common.{[], ◌∷◌, ◌++◌, ap, refl, sym, subst, ◌∙◌}
+use Rattle.std.proofs.Common.{ap, refl, sym, subst, ◌∙◌}
 use Rattle.rel_io.specs.declared.limits.Limits.{Limits}
 use Rattle.el_taxonomy.specs.Reason.{IsRefused}
 use Rattle.plain_reasoning.specs.Reason.{Reasoned}

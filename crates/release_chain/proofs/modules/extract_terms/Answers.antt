@@ -1,4 +1,4 @@
-use Rattle.std.proofs.Common.{ℕ, List, ◌≡◌, refl, sym}
+use Rattle.std.proofs.Common.{ℕ, List, ◌≡◌, refl}
 use Rattle.release_chain.specs.Part.{answers, reads}
 use Rattle.release_chain.specs.Steps.{extracted_or, seed_in}
 use Rattle.release_chain.specs.inner.Work.{IsAt}

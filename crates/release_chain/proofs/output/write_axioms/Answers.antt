@@ -1,10 +1,9 @@
-use Rattle.std.proofs.Common.{Ok, refl, sym, ap, subst, ◌∙◌, ◌≡◌}
+use Rattle.std.proofs.Common.{refl, sym}
 use Rattle.std.proofs.lemmas.Result.{err_from_is_err_and}
-use Rattle.release_chain.specs.Outputs.{text_of}
 use Rattle.release_chain.specs.Steps.{made_of}
 use Rattle.release_chain.specs.inner.Work.{IsAt}
 use Rattle.release_chain.proofs.Outputs.{caused_text, fits, put_ends, put_fails, text_fails, text_in}
-use Rattle.release_chain.proofs.Parts.{answer_caused, answer_ends, caused_later, some_trace, some_trace-is_at}
+use Rattle.release_chain.proofs.Parts.{answer_caused, answer_ends, some_trace, some_trace-is_at}
 use Rattle.release_chain.proofs.output.write_axioms.Goals as goal
 
 pub returns-in_err-bytes-clause-caused : goal.returns-in_err-bytes-clause-caused

@@ -1,4 +1,4 @@
-use Rattle.std.proofs.Common.{Some, ap, map, subst, sym, ◌∙◌, refl}
+use Rattle.std.proofs.Common.{map, subst, sym, ◌∙◌}
 use Rattle.std.proofs.lemmas.Option.{same_Some}
 use Rattle.std.specs.String.{string_bytes}
 use Rattle.release_report.specs.declared.fault.Fault.{Fault}

@@ -1,5 +1,5 @@
 use Rattle.std.proofs.Common.{refl}
-use Rattle.chain_words.specs.Word.{Name, same}
+use Rattle.chain_words.specs.Word.{same}
 use Rattle.release_chain.specs.inner.Work.{IsAt}
 use Rattle.release_chain.proofs.Parts.{answer_caused, answer_ends, some_trace, some_trace-is_at}
 use Rattle.release_chain.proofs.StepLaws.{held_first}
