@@ -10,7 +10,7 @@ use el_part::ElPart;
 use el_saturate::Table;
 use expr_pool::{Cell, Pool};
 use fact_rows::{Numbers, empty_numbers, fresh_flags, push_number_at};
-use owl_axioms::{Body, ClassExpr, Kind, Name};
+use owl_axioms::{Axiom, Body, ClassExpr, Kind, Name};
 use owl_ontology::Ontology;
 use rel_io::{Iri, NoMemory};
 use std::alloc::Global;
@@ -71,12 +71,12 @@ fn class_named(name: &Name) -> Option<&Iri>
     }
 }
 
-/// The two classes of which an axiom says that the first is below the second.
+/// The two classes of which an axiom says, with whatever annotations, that the first is below the second.
 #[tactic(auto, unfolding(crate::specs::inner::Numbers::class_name, crate::specs::inner::Numbers::told_in))]
-fn told_classes(body: &Body) -> Option<(&Iri, &Iri)>
-    ensures { MatchOption result (told_in body.now ≡ None) (λ found. told_in body.now ≡ Some (found.0.now, found.1.now)) }
+fn told_classes(one: &Axiom) -> Option<(&Iri, &Iri)>
+    ensures { MatchOption result (told_in one.now.body ≡ None) (λ found. told_in one.now.body ≡ Some (found.0.now, found.1.now)) }
 {
-    match body {
+    match &one.body {
         Body::Sub(ClassExpr::Class(sub), ClassExpr::Class(sup)) => Some((sub, sup)),
         _ => None,
     }
@@ -154,7 +154,7 @@ pub fn told_rows(
 {
     let mut told = empty_numbers(alloc, part.occurring() as u32)?;
     for at in 0..ontology.len() {
-        push_told(part, table, &ontology.get(at).body, &mut told)?;
+        push_told(part, table, ontology.get(at), &mut told)?;
     }
     Ok(told)
 }
@@ -163,12 +163,12 @@ pub fn told_rows(
 fn push_told(
     part: &ElPart,
     table: &Table,
-    body: &Body,
+    one: &Axiom,
     told: &mut Vec<Numbers>,
 ) -> Result<(), NoMemory>
-    ensures { OnOk result ((trees : List ClassExpr) → IsGround trees part.now table.now → TellsMore (exprs_of trees part.now) (told_in body.now) told.old.items told.new.items) }
+    ensures { OnOk result ((trees : List ClassExpr) → IsGround trees part.now table.now → TellsMore (exprs_of trees part.now) (told_in one.now.body) told.old.items told.new.items) }
 {
-    match told_classes(body) {
+    match told_classes(one) {
         None => Ok(()),
         Some((sub, sup)) => push_pair(part, table, sub, sup, told),
     }

@@ -38,9 +38,9 @@ impl Dup for Reasoned {
     }
 }
 
-/// Adds an inclusion for each direct edge of the derived order of classes that no axiom says, without annotations; or is
-/// refused where more facts are derived than the limit, and then where nothing can be in a declared class. Where it is
-/// refused or no memory is left, nothing has happened.
+/// Adds an inclusion for each direct edge of the derived order of classes that no axiom says, without annotations and in the
+/// order of the names of the two classes; or is refused where more facts are derived than the limit, and then where nothing
+/// can be in a declared class. Where it is refused or no memory is left, nothing has happened.
 pub fn reason(alloc: Global, ontology: &mut Ontology, limit: u64) -> Result<Reasoned, ReasonFault>
     ensures reasoned { IfOk result (λ said. Reasons ontology.old ontology.new limit said.added said.unused) }
     ensures keeps { IfOk result (λ said. KeepBoth (axioms_of ontology.old.entries) (axioms_of ontology.new.entries)) }
