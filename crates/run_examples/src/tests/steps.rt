@@ -56,14 +56,13 @@ fn what_follows_is_added(rt: HostRuntime) -> Result<(), Fail> {
     Ok(())
 }
 
-/// The steps of a release on generated ontologies. A file that is there is not touched.
+/// The steps of a release on a generated ontology. A file that is there is not touched.
 const GENERATED: &str =
     r#"- 9 - -; generate 10; a.obo=x => 0; generate 10: 16 frames, 1008 bytes|merge: 15 logical, 16 declarations, 16 notes|extract STAR: 5 logical, 6 declarations, 6 notes, 0 unknown terms, 2 rounds|reason: 2 added, 0 not used|relax: 1 added|reduce: 1 removed|text: 567 bytes|; 
-- 9 - -; generate 20000; a.obo=x => 0; generate 20000: 28002 frames, 1828094 bytes|merge: 31999 logical, 28002 declarations, 28002 notes|extract STAR: 8001 logical, 10001 declarations, 10001 notes, 0 unknown terms, 2 rounds|reason: 4000 added, 0 not used|relax: 2000 added|reduce: 2000 removed|text: 952091 bytes|; 
 - 9 0 -; generate 10; a.obo=x => 3; ; robot: report: write fault|"#;
 
 #[test]
-fn generated_ontologies_are_released(rt: HostRuntime) -> Result<(), Fail> {
+fn a_generated_ontology_is_released(rt: HostRuntime) -> Result<(), Fail> {
     let wrong = wrong_in(rt.alloc(), GENERATED, ending_of)?;
     assert_eq!(rt; wrong.as_str(), "");
     Ok(())
