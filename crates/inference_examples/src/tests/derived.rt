@@ -248,6 +248,13 @@ fn are_too_many(alloc: Global, part: &ElPart, pool: &Pool, facts: u64) -> Result
     }
 }
 
+/// Whether one fact less than this number is too small a limit, and so is none.
+fn is_limited(alloc: Global, part: &ElPart, pool: &Pool, facts: u64) -> Result<bool, NoMemory>
+    requires { FitsPool pool.now part.now }
+{
+    Ok(are_too_many(alloc, part, pool, facts)? && are_too_many(alloc, part, pool, 1)?)
+}
+
 /// Whether an ontology has so many derived facts and unused axioms, and these pairs.
 fn derives(
     alloc: Global,
@@ -259,7 +266,7 @@ fn derives(
     let mut pool = Pool::new(alloc)?;
     let ontology = ontology_of(alloc, axioms)?;
     let part = el_part(alloc, &ontology, &mut pool)?;
-    if part.unused() != unused || !are_too_many(alloc, &part, &pool, facts)? {
+    if part.unused() != unused || !is_limited(alloc, &part, &pool, facts)? {
         return Ok(false);
     }
     match saturate(alloc, &part, &pool, facts) {
@@ -327,5 +334,23 @@ fn links_are_derived(rt: HostRuntime) -> Result<(), Fail> {
     let empty = [(b'd', b'N', true), (b'a', b'N', false)];
     let disjoint = derives(alloc, apart.as_slice(), 21, 0, empty.as_slice())?;
     assert!(rt; disjoint);
+    Ok(())
+}
+
+/// A definition, and a chain of parts by a transitive role: the least ontology that all steps of a release change.
+#[test]
+fn a_small_release_is_derived(rt: HostRuntime) -> Result<(), Fail> {
+    let alloc = rt.alloc();
+    let axioms = [
+        (b'=', b'w', b'W'),
+        (b'<', b'd', b'a'),
+        (b'<', b'd', b'C'),
+        (b'<', b'c', b'B'),
+        (b't', b'r', b'r'),
+        (b'D', b'b', b'b'),
+    ];
+    let pairs = [(b'd', b'w', true), (b'd', b'B', true), (b'c', b'w', false)];
+    let release = derives(alloc, axioms.as_slice(), 40, 0, pairs.as_slice())?;
+    assert!(rt; release);
     Ok(())
 }

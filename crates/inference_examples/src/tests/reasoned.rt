@@ -36,11 +36,13 @@ fn is_reasoned(
     let wanted = ontology.len().saturating_add(edges.len());
     let has_before = !edges.is_empty() && has_edges(alloc, &ontology, edges)?;
     match reason(alloc, &mut ontology, 1000) {
-        Ok(said) => Ok(!has_before
-            && said.added == edges.len() as u64
-            && said.unused == unused
-            && ontology.len() == wanted
-            && has_edges(alloc, &ontology, edges)?),
+        Ok(said) => Ok(
+            !has_before
+                && said.added == edges.len() as u64
+                && said.unused == unused
+                && ontology.len() == wanted
+                && has_edges(alloc, &ontology, edges)?,
+        ),
         Err(_) => Ok(false),
     }
 }
