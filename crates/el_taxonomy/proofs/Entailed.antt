@@ -37,7 +37,7 @@ step_axioms : (added : List Axiom) → axioms_of (step_entries added) ≡ added
 step_axioms [] = refl
 step_axioms (a ∷ added) = ap (λ rest. a ∷ rest) (step_axioms added)
 
-pub axioms_with : (held : List Entry) (added : List Axiom) → axioms_of (held ++ step_entries added) ≡ axioms_of held ++ added
+axioms_with : (held : List Entry) (added : List Axiom) → axioms_of (held ++ step_entries added) ≡ axioms_of held ++ added
 axioms_with held added = map-append (λ (e : Entry). e.axiom) held (step_entries added) ∙ ap (λ rest. axioms_of held ++ rest) (step_axioms added)
 
 pub infers_keeps : {view : ElView} {before after : OntologyState} {count : ℕ} → IsElPartOf (axioms_of before.entries) view → Infers view before after count → KeepBoth (axioms_of before.entries) (axioms_of after.entries)

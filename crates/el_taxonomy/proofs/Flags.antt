@@ -7,7 +7,6 @@ use Rattle.fact_rows.specs.Member.{In, here}
 use Rattle.fact_rows.specs.Rows.{push_at, row}
 use Rattle.fact_rows.proofs.RowLemmas.{row_at_end, row_empty, row_only, row_stays}
 use Rattle.fact_rows.proofs.Members.{contains_from_in, in_from_contains, in_left, in_none, in_one, in_parts, in_right}
-use Rattle.fact_rows.proofs.MarkLemmas.{no_flag}
 use Rattle.std.proofs.lemmas.List.{length-replicate}
 use Rattle.fact_rows.proofs.Places.{get_push, get_push_kept, get_push_last, set_other, set_same}
 use Rattle.rel_io.proofs.Options.{same_there}
@@ -107,17 +106,6 @@ flag_set exprs class old new at within past number only = ⊎_elim
     })
     (cases_lt at (length old))
 
--- ---- before the first axiom
-
-pub none_declared : (exprs : List ClassExpr) (flags : List Bool) (n : ℕ) → flags ≡ replicate n false → n ≡ length exprs → AreDeclared exprs [] flags
-none_declared exprs flags n is long = record {
-  long = ap length is ∙ length-replicate n false ∙ long;
-  each = λ k. (
-    λ h. absurd (no_flag n k (subst (λ z. IsFlagged z k) is h)),
-    λ d. in_none d.2.1,
-  );
-}
-
 -- ---- one number more in a row
 
 pub tells_set : (exprs : List ClassExpr) (sub super : List ℕ) (old new : List (List ℕ)) (lower upper : ℕ) → (lower < length old → new ≡ push_at old lower upper) → (length old ≤ lower → new ≡ old)
@@ -161,9 +149,6 @@ none_told exprs told n is long = record {
 pub record AreClassesTo (exprs : List ClassExpr) (count : ℕ) (flags : List Bool) : Type 0 where
   pub long : length flags ≡ count
   pub each : (k : ℕ) → k < count → IsFlagged flags k ↔ (class : List ℕ) × IsNumberOf exprs class k
-
-pub no_classes : (exprs : List ClassExpr) (flags : List Bool) → flags ≡ [] → AreClassesTo exprs 0 flags
-no_classes exprs flags is = record { long = ap length is; each = λ k low. absurd (omega (arith, low)) }
 
 -- the flag says whether the number is that of a class
 abbrev pub TellsClass : List ClassExpr → ℕ → Bool → Type 0

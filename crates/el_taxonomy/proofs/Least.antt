@@ -27,7 +27,7 @@ declared_total =
 declared_order : IsStrictWeakOrder is_lesser
 declared_order = ranks_by declared_total (λ (d : Declared). d)
 
-pub not_itself : (d : Declared) → is_lesser d d ≡ false
+not_itself : (d : Declared) → is_lesser d d ≡ false
 not_itself d = by_bool (is_lesser d d) (λ less. declared_order.one_way d d less) (λ isnt. isnt)
 
 pub lesser_no_more : (one other : Declared) → one ≡ other → is_lesser one other ≡ false
@@ -35,7 +35,7 @@ lesser_no_more one other same = subst (λ d. is_lesser d other ≡ false) (sym s
 
 -- ---- entries
 
-pub same_declared : (entries : List Entry) (at : ℕ) (one other : Declared) → IsDeclaredAt entries at one → IsDeclaredAt entries at other → one ≡ other
+same_declared : (entries : List Entry) (at : ℕ) (one other : Declared) → IsDeclaredAt entries at one → IsDeclaredAt entries at other → one ≡ other
 same_declared entries at one other here there =
     let e : here.entry ≡ there.entry = same_there (sym here.found ∙ there.found) in
     let class : one.class ≡ other.class = same_there (sym here.class ∙ ap (λ (x : Entry). declared_in x.axiom.body) e ∙ there.class) in

@@ -7,5 +7,4 @@ pub mod Least
 pub mod Naming
 pub mod Numbers
 pub mod Occurring
-pub mod Outcomes
 pub mod Proper

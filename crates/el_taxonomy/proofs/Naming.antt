@@ -71,12 +71,12 @@ between_once (Some a) (Some b) = more in_none none
 between_once (Some a) None = none
 between_once None other = none
 
-pub edge_numbers : (exprs : List ClassExpr) (p : ℕ × ℕ) (e : Edge) → In e (edge_numbered exprs p) → IsNumberOf exprs e.sub p.0 × IsNumberOf exprs e.sup p.1
+edge_numbers : (exprs : List ClassExpr) (p : ℕ × ℕ) (e : Edge) → In e (edge_numbered exprs p) → IsNumberOf exprs e.sub p.0 × IsNumberOf exprs e.sup p.1
 edge_numbers exprs p e i =
     let are = between_are (class_numbered exprs p.0) (class_numbered exprs p.1) e i in
     (named_expr (slice_get exprs p.0) e.sub are.0, named_expr (slice_get exprs p.1) e.sup are.1)
 
-pub numbers_edge : (exprs : List ClassExpr) (sub super : List ℕ) (i j : ℕ) → IsNumberOf exprs sub i → IsNumberOf exprs super j → In (edge_of sub super) (edge_numbered exprs (i, j))
+numbers_edge : (exprs : List ClassExpr) (sub super : List ℕ) (i j : ℕ) → IsNumberOf exprs sub i → IsNumberOf exprs super j → In (edge_of sub super) (edge_numbered exprs (i, j))
 numbers_edge exprs sub super i j one other =
     let same : edge_numbered exprs (i, j) ≡ edge_of sub super ∷ [] = λ k. edge_between (numbered exprs sub i one k) (numbered exprs super j other k) in
     subst (In (edge_of sub super)) (sym same) here

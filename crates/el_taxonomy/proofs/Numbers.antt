@@ -37,7 +37,7 @@ from_map_at f [] k y h = absurd (none_there h)
 from_map_at f (x ∷ xs) zero y h = (x, refl, same_there h)
 from_map_at f (x ∷ xs) (suc k) y h = from_map_at f xs k y h
 
-pub expr_there : (trees : List ClassExpr) (part : PartState) (k : ℕ) (n : Node) → slice_get part.occurring k ≡ Some n → slice_get (exprs_of trees part) k ≡ Some (tree_at trees n)
+expr_there : (trees : List ClassExpr) (part : PartState) (k : ℕ) (n : Node) → slice_get part.occurring k ≡ Some n → slice_get (exprs_of trees part) k ≡ Some (tree_at trees n)
 expr_there trees part k n h = slice_get-map (tree_at trees) part.occurring k ∙ ap (option_map (tree_at trees)) h
 
 pub node_there : (trees : List ClassExpr) (part : PartState) (k : ℕ) (c : ClassExpr) → slice_get (exprs_of trees part) k ≡ Some c → (n : Node) × (slice_get part.occurring k ≡ Some n) × (tree_at trees n ≡ c)
