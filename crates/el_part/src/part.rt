@@ -1,5 +1,5 @@
 //! `ElPart`: the EL part of an ontology, and how it is taken.
-ghost use Rattle.std.specs.Prelude.{◌≡◌, ◌<◌, Some, IfOk, length, option_copied, slice_get};
+ghost use Rattle.std.specs.Prelude.{◌≡◌, ◌<◌, Some, IfOk, OnErr, length, option_copied, slice_get};
 ghost use Rattle.owl_ontology.specs.Ontology.{axioms_of};
 ghost use Rattle.expr_pool.specs.Pool.{Grew};
 ghost use Rattle.el_rules.specs.ElPart.{unused_of};
@@ -84,8 +84,27 @@ impl ElPart {
 }
 
 /// The EL part of an ontology. It takes time in proportion to the ontology and the pool. All nodes that were in the pool
-/// keep their trees; further ones may be in it, also where memory runs out.
+/// keep their trees; further ones may be in it then. Where no memory is left, nothing has happened.
 pub fn el_part(alloc: Global, ontology: &Ontology, pool: &mut Pool) -> Result<ElPart, NoMemory>
+    ensures kept { Grew pool.old pool.new }
+    ensures part { IfOk result (λ part. IsElPartOf (axioms_of ontology.now.entries) (view_of pool.new part)) }
+    ensures fits { IfOk result (λ part. FitsPool pool.new part) }
+    ensures classes { IfOk result (λ part. HasClasses pool.new part) }
+    ensures unused { IfOk result (λ part. part.unused ≡ unused_of (axioms_of ontology.now.entries)) }
+    ensures unchanged { OnErr result (pool.new ≡ pool.old) }
+{
+    let len = pool.len();
+    match part_of(alloc, ontology, pool) {
+        Ok(part) => Ok(part),
+        Err(fault) => {
+            pool.cut(len);
+            Err(fault)
+        }
+    }
+}
+
+/// The EL part of an ontology, after which the pool may have further nodes in any case.
+fn part_of(alloc: Global, ontology: &Ontology, pool: &mut Pool) -> Result<ElPart, NoMemory>
     ensures kept { Grew pool.old pool.new }
     ensures part { IfOk result (λ part. IsElPartOf (axioms_of ontology.now.entries) (view_of pool.new part)) }
     ensures fits { IfOk result (λ part. FitsPool pool.new part) }

@@ -1,4 +1,4 @@
-//! Reasoning: what is missing is found in the table of derived facts, and then added to a copy.
+//! Reasoning: what is missing is found in the table of derived facts, and then added.
 ghost use Rattle.std.specs.Prelude.{◌≡◌, ◌∷◌, [], IfErr, IfOk, List, OnErr, OnOk, ℕ};
 ghost use Rattle.indexmap.specs.IndexSet.{insert_all};
 ghost use Rattle.el_part.specs.Part.{view_of};
@@ -20,7 +20,7 @@ use indexmap::IndexSet;
 use owl_axioms::{Body, ClassExpr};
 use owl_ontology::Ontology;
 use rel_io::{Dup, NoMemory};
-use relax_axioms::with_all;
+use relax_axioms::add_all;
 use std::alloc::Global;
 
 /// What there is to say of reasoning.
@@ -106,8 +106,7 @@ fn with_edges(
     let bodies = inclusions(alloc, edges.as_slice())?;
     drop(edges);
     let _proper = ontology.len();
-    let more = with_all(alloc, ontology, &bodies)?;
-    *ontology = more;
+    add_all(alloc, ontology, &bodies)?;
     Ok(Reasoned {
         added: bodies.len() as u64,
         unused: part.unused(),

@@ -1,4 +1,5 @@
 //! One module for each crate whose answers are compared.
+mod cuts;
 mod extracts;
 mod pools;
 mod signatures;

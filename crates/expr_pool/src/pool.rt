@@ -1,5 +1,5 @@
 //! `Pool`: each tree once, with one look-up a node.
-ghost use Rattle.std.specs.Prelude.{◌≡◌, ◌<◌, ◌≤◌, ◌↔◌, [], Some, IsTrue, IfOk, length, slice_get, take};
+ghost use Rattle.std.specs.Prelude.{◌≡◌, ◌<◌, ◌≤◌, ◌↔◌, [], Some, IsTrue, IfOk, OnErr, length, slice_get, take};
 ghost use Rattle.expr_pool.specs.Interned.{AddsInside, HasNode, IsLastOrKnown};
 ghost use Rattle.expr_pool.specs.Pool.{AreDifferent, Grew, IsBefore, tree_at, tree_of};
 
@@ -47,8 +47,27 @@ impl Pool {
 
     /// The node of a tree: the one that is there, and then the pool is as it was; or a new one behind all others, with
     /// new nodes for those of its parts that had none before it, and for nothing else. It takes time in proportion to
-    /// the tree. After `NoMemory` some of its parts may have nodes.
+    /// the tree. Where no memory is left, nothing has happened.
     pub fn intern(&mut self, tree: &ClassExpr) -> Result<Node, NoMemory>
+        ensures kept { Grew self.old self.new }
+        ensures known { HasNode self.old tree.now → self.new ≡ self.old }
+        ensures last { IfOk result (λ n. IsLastOrKnown self.old self.new n.place) }
+        ensures only { AddsInside self.old tree.now self.new }
+        ensures node { IfOk result (λ n. slice_get self.new n.place ≡ Some tree.now) }
+        ensures unchanged { OnErr result (self.new ≡ self.old) }
+    {
+        let len = self.len();
+        match self.put(tree) {
+            Ok(node) => Ok(node),
+            Err(fault) => {
+                self.cut(len);
+                Err(fault)
+            }
+        }
+    }
+
+    /// The node of a tree. Where no memory is left, some of its parts may have nodes.
+    fn put(&mut self, tree: &ClassExpr) -> Result<Node, NoMemory>
         ensures kept { Grew self.old self.new }
         ensures known { HasNode self.old tree.now → self.new ≡ self.old }
         ensures last { IfOk result (λ n. IsLastOrKnown self.old self.new n.place) }

@@ -1,5 +1,5 @@
 -- What is left of a table where each entry has a flag.
-use Rattle.std.proofs.Common.{◌≡◌, Bool, true, false, cond, ◌&&◌, List, [], ◌∷◌, drop, refl, sym, ap, ◌∙◌}
+use Rattle.std.proofs.Common.{◌≡◌, ℕ, zero, suc, Bool, true, false, cond, ◌&&◌, List, [], ◌∷◌, drop, take, refl, sym, ap, ◌∙◌}
 use Rattle.std.specs.List.{list_all}
 use Rattle.std.specs.Map.{keys_of}
 use Rattle.std.specs.Map.Calls.{RetainsPairs}
@@ -43,3 +43,18 @@ AreProper-flagged (true ∷ flags) (p ∷ pairs) all =
     let rest : list_all is_proper (keys_of (flagged flags pairs)) ≡ true = AreProper-flagged flags pairs parts.1 in
     λ i. parts.0 i && rest i
 AreProper-flagged (false ∷ flags) (p ∷ pairs) all = AreProper-flagged flags pairs (both (is_proper p.0) (list_all is_proper (keys_of pairs)) all).1
+
+-- the first entries are those of the first pairs
+pub entries_of-take : (n : ℕ) (pairs : Pairs) → entries_of (take n pairs) ≡ take n (entries_of pairs)
+entries_of-take zero pairs = refl
+entries_of-take (suc n) [] = refl
+entries_of-take (suc n) (p ∷ pairs) = ap (λ rest. entry_of p.0 p.1 ∷ rest) (entries_of-take n pairs)
+
+-- of proper axioms the first ones are proper
+pub AreProper-take : (n : ℕ) (pairs : Pairs) → AreProper (keys_of pairs) → AreProper (keys_of (take n pairs))
+AreProper-take zero pairs all = refl
+AreProper-take (suc n) [] all = refl
+AreProper-take (suc n) (p ∷ pairs) all =
+    let parts : (is_proper p.0 ≡ true) × (list_all is_proper (keys_of pairs) ≡ true) = both (is_proper p.0) (list_all is_proper (keys_of pairs)) all in
+    let rest : list_all is_proper (keys_of (take n pairs)) ≡ true = AreProper-take n pairs parts.1 in
+    λ i. parts.0 i && rest i

@@ -1,5 +1,5 @@
 //! `Ontology`: a name and a list of proper axioms without repeats, each with its least origin.
-ghost use Rattle.std.specs.Prelude.{◌≡◌, ◌+◌, ◌++◌, IsSome, IfSome, ◌<◌, ◌↔◌, if◌then◌else◌, is_some, [], Some, IsTrue, IfOk, OnOk, OnErr, drop, length, slice_get};
+ghost use Rattle.std.specs.Prelude.{◌≡◌, ◌+◌, ◌++◌, IsSome, IfSome, ◌<◌, ◌≤◌, ◌↔◌, if◌then◌else◌, is_some, [], Some, IsTrue, IfOk, OnOk, OnErr, drop, length, slice_get, take};
 ghost use Rattle.std.specs.Option.{option_copied, option_map_or};
 ghost use Rattle.std.specs.Map.{lookup};
 ghost use Rattle.indexmap.specs.IndexMap.{IsUnchanged, IsUnique, index_map_len, insert_entry};
@@ -133,6 +133,14 @@ impl Ontology {
         ensures proper { IfSome result (λ taken. IsProper taken.0) }
     {
         self.axioms.pop()
+    }
+
+    /// Keeps the first axioms with their origins, as after a call that failed. It takes no memory.
+    pub fn cut(&mut self, len: usize)
+        requires { len ≤ length self.old.entries }
+        ensures { self.new ≡ record self.old { entries = take len self.old.entries } }
+    {
+        self.axioms.truncate(len);
     }
 }
 

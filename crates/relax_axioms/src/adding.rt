@@ -1,5 +1,5 @@
-//! Relaxing: what is missing is collected, and then added to a copy.
-ghost use Rattle.std.specs.Prelude.{◌≡◌, ◌++◌, Contains, IfOk, OnErr, length, map};
+//! Relaxing: what is missing is collected, and then added; where memory runs out, what was added is taken out again.
+ghost use Rattle.std.specs.Prelude.{◌≡◌, ◌++◌, Contains, IfOk, OnErr, OnOk, length, map, take};
 ghost use Rattle.owl_axioms.specs.Proper.{IsProper};
 ghost use Rattle.owl_ontology.specs.Ontology.{IsHeld, axioms_of};
 ghost use Rattle.owl_sem.specs.Laws.{KeepBoth};
@@ -23,29 +23,45 @@ pub fn relax(alloc: Global, ontology: &mut Ontology) -> Result<u64, NoMemory>
     ensures unchanged { OnErr result (ontology.new ≡ ontology.old) }
 {
     let missing = missing(alloc, ontology)?;
-    let more = with_all(alloc, ontology, &missing)?;
-    *ontology = more;
+    add_all(alloc, ontology, &missing)?;
     Ok(missing.len() as u64)
 }
 
-/// The ontology with an axiom more for each of these, none of which it has, as a step adds them: without annotations, behind
-/// all others.
-pub fn with_all(
+/// Adds an axiom for each of these, none of which is there, as a step adds them: without annotations, behind all others. Where
+/// no memory is left, nothing has happened.
+pub fn add_all(
     alloc: Global,
-    ontology: &Ontology,
+    ontology: &mut Ontology,
     bodies: &IndexSet<Body>,
-) -> Result<Ontology, NoMemory>
+) -> Result<(), NoMemory>
     requires proper { (b : Body) → Contains bodies.now.keys b → IsProper (plain b) }
-    requires absent { (b : Body) → Contains bodies.now.keys b → ¬ (IsHeld (plain b) ontology.now.entries) }
-    ensures { IfOk result (λ more. more ≡ record ontology.now { entries = ontology.now.entries ++ step_entries (map plain bodies.now.keys) }) }
+    requires absent { (b : Body) → Contains bodies.now.keys b → ¬ (IsHeld (plain b) ontology.old.entries) }
+    ensures added { OnOk result (ontology.new ≡ record ontology.old { entries = ontology.old.entries ++ step_entries (map plain bodies.now.keys) }) }
+    ensures unchanged { OnErr result (ontology.new ≡ ontology.old) }
 {
-    let mut more = ontology.copy(alloc)?;
+    let len = ontology.len();
+    match add_each(alloc, ontology, bodies) {
+        Ok(()) => Ok(()),
+        Err(fault) => {
+            ontology.cut(len);
+            Err(fault)
+        }
+    }
+}
+
+/// Adds them one after the other. Where no memory is left, some may stand behind what was there.
+fn add_each(alloc: Global, ontology: &mut Ontology, bodies: &IndexSet<Body>) -> Result<(), NoMemory>
+    requires proper { (b : Body) → Contains bodies.now.keys b → IsProper (plain b) }
+    requires absent { (b : Body) → Contains bodies.now.keys b → ¬ (IsHeld (plain b) ontology.old.entries) }
+    ensures added { OnOk result (ontology.new ≡ record ontology.old { entries = ontology.old.entries ++ step_entries (map plain bodies.now.keys) }) }
+    ensures kept { ontology.old ≡ record ontology.new { entries = take (length ontology.old.entries) ontology.new.entries } }
+{
     let count = bodies.len();
     for at in 0..count {
         let body = bodies.get_index(at).unwrap().copy(alloc)?;
-        more.add(plain_axiom(alloc, body), step_origin())?;
+        ontology.add(plain_axiom(alloc, body), step_origin())?;
     }
-    Ok(more)
+    Ok(())
 }
 
 /// An axiom without annotations.

@@ -8,5 +8,5 @@ mod implied;
 mod laws;
 mod unsaid;
 
-pub use adding::{relax, with_all};
+pub use adding::{add_all, relax};
 pub use laws::{definition_entails, missing_is_entailed, relax_of_relaxes, relaxing_keeps};

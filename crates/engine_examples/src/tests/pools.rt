@@ -87,7 +87,7 @@ fn interned(pool: &mut Pool, tree: ClassExpr) -> Result<(u64, u64), NoMemory> {
 }
 
 /// The same of the tree of a number.
-fn interned_at(alloc: Global, pool: &mut Pool, number: u8) -> Result<(u64, u64), NoMemory> {
+pub fn interned_at(alloc: Global, pool: &mut Pool, number: u8) -> Result<(u64, u64), NoMemory> {
     let tree = tree(alloc, number)?;
     interned(pool, tree)
 }

@@ -4,8 +4,8 @@ use Rattle.el_taxonomy.specs.inner.Adding.{said_of_all}
 use Rattle.el_taxonomy.proofs.Adding.{infers, key_absent, key_proper}
 use Rattle.el_taxonomy.proofs.reasoning.with_edges.Goals as goal
 
-pub with_all-requires : goal.with_all-requires
-with_all-requires c =
+pub add_all-requires : goal.add_all-requires
+add_all-requires c =
     let before = c.args.ontology.now in
     let view = view_of c.args.pool.now c.args.part.now in
     let edges = c.in_ok-edges.edges.items in
@@ -23,4 +23,4 @@ returns-clause-infers c =
     let edges = c.in_ok-edges.edges.items in
     let keys = c.in_ok-bodies.bodies.keys in
     let put = c.in_ok-bodies.ensures ∙ ap said_of_all c.as_slice.ensures.value in
-    infers before view c.requires.1.part_is edges c.in_ok-edges.ensures keys put c.in_ok-more.more c.len.result c.len.ensures.len c.in_ok-more.ensures
+    infers before view c.requires.1.part_is edges c.in_ok-edges.ensures keys put c.add_all.new.ontology c.len.result c.len.ensures.len c.in_ok-add_all.ensures.added

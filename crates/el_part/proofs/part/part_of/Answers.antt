@@ -7,7 +7,7 @@ use Rattle.el_part.proofs.PartLemmas as lemmas
 use Rattle.el_part.specs.Part.{nodes_in}
 use Rattle.el_part.specs.inner.ClassMap.{AreClassesOf, same_iri}
 use Rattle.el_part.specs.inner.Reached.{AreOccurring, StartWithNames}
-use Rattle.el_part.proofs.part.el_part.Goals as goal
+use Rattle.el_part.proofs.part.part_of.Goals as goal
 
 pub occurring_nodes-requires-clause-before : goal.occurring_nodes-requires-clause-before
 occurring_nodes-requires-clause-before c =

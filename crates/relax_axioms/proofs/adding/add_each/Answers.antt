@@ -5,7 +5,7 @@ use Rattle.owl_ontology.specs.Ontology.{OntologyState, add_entry}
 use Rattle.relax_axioms.specs.Relax.{step_entries, step_origin}
 use Rattle.relax_axioms.specs.Relaxed.{plain}
 use Rattle.relax_axioms.proofs.Missing.{with_next}
-use Rattle.relax_axioms.proofs.adding.with_all.Goals as goal
+use Rattle.relax_axioms.proofs.adding.add_each.Goals as goal
 
 pub add-requires : goal.add-requires
 add-requires c =
