@@ -1,13 +1,12 @@
 pub mod AnswerLemmas
-pub mod DraftLemmas
 pub mod FaultLemmas
+pub mod FeedingLemmas
 pub mod GroupLemmas
 pub mod LawLemmas
 pub mod LeastLemmas
 pub mod ListLemmas
 pub mod OneLemmas
 pub mod PlacingLemmas
-pub mod ReadingLemmas
 pub mod SameLemmas
 pub mod SoundLemmas
 pub mod SpellingLemmas
