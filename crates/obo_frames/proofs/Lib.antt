@@ -7,6 +7,7 @@ pub mod LeastLemmas
 pub mod ListLemmas
 pub mod OneLemmas
 pub mod PlacingLemmas
+pub mod ReadingLemmas
 pub mod SameLemmas
 pub mod SoundLemmas
 pub mod SpellingLemmas

@@ -48,8 +48,9 @@ pub fn read_piece(alloc: Global, reading: Reading, piece: &[u8]) -> Result<Readi
     let mut reading = reading;
     let mut left = piece;
     while left.len() > PART {
-        reading = read_part(alloc, reading, &left[..PART])?;
-        left = &left[PART..];
+        let (part, later) = left.split_at(PART);
+        reading = read_part(alloc, reading, part)?;
+        left = later;
     }
     read_part(alloc, reading, left)
 }
