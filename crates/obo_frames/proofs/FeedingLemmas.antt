@@ -1,5 +1,5 @@
 -- A file read in pieces: cutting does not matter, and the end comes to the document of all bytes.
-use Rattle.std.proofs.Common.{◌≡◌, ℕ, ◌+◌, List, [], ◌∷◌, ◌++◌, Option, None, Result, Ok, Err, ap, append_assoc, append-nil, arith, length, length-append, refl, subst, sym, ◌∙◌}
+use Rattle.std.proofs.Common.{◌≡◌, ℕ, ◌+◌, List, [], ◌∷◌, ◌++◌, None, Result, Ok, Err, ap, append_assoc, append-nil, arith, length, length-append, refl, sym, ◌∙◌}
 use Rattle.obo_lexer.specs.Feeding as lines
 use Rattle.obo_lexer.specs.Items.{lines_of}
 use Rattle.obo_lexer.specs.declared.line.LineItem.{LineItem}
@@ -13,7 +13,6 @@ use Rattle.obo_frames.specs.Telling.{place_after, start}
 use Rattle.obo_frames.specs.inner.Standing.{behind_line, lost_at_end, lost_at_line, lost_from, placed_by_line, placed_from}
 use Rattle.obo_frames.specs.declared.fault.DocFault.{DocFault}
 use Rattle.obo_frames.specs.declared.lines.SoFar.{SoFar}
-use Rattle.obo_frames.specs.declared.placed.Placed.{Placed}
 use Rattle.obo_frames.specs.declared.told.Told.{Told}
 use Rattle.obo_frames.proofs.LeastLemmas.{least_line-append}
 use Rattle.obo_frames.proofs.PlacingLemmas.{lost_from-is, placed_from-is}

@@ -1,10 +1,9 @@
 -- A file that is read up to some byte: what holds of it, line by line and piece by piece.
-use Rattle.std.proofs.Common.{◌≡◌, ◌⊎◌, inl, inr, ℕ, ◌+◌, false, true, List, [], ◌∷◌, ◌++◌, None, Result, Ok, Err, ap, arith, length, length-append, refl, subst, sym, ◌∙◌}
+use Rattle.std.proofs.Common.{◌≡◌, inl, inr, ℕ, ◌+◌, false, List, [], ◌++◌, None, Result, Ok, Err, ap, arith, length, length-append, refl, subst, sym, ◌∙◌}
 use Rattle.std.proofs.Math.Logic.{∥∥₁_map}
 use Rattle.obo_lexer.specs.Feeding as lines
-use Rattle.obo_lexer.specs.declared.line.LineItem.{LineItem}
-use Rattle.obo_frames.specs.Answer.{document_of, unless_faulty}
-use Rattle.obo_frames.specs.Feeding.{IsAnswer, Midway, draft_answer, draft_fault, emptied, read_end, read_item, read_items, read_piece, read_waiting, then_read, untouched}
+use Rattle.obo_frames.specs.Answer.{unless_faulty}
+use Rattle.obo_frames.specs.Feeding.{IsAnswer, Midway, draft_answer, draft_fault, emptied, read_end, read_items, read_piece, read_waiting, then_read, untouched}
 use Rattle.obo_frames.specs.Soundness.{IsKept, IsSound}
 use Rattle.obo_frames.specs.inner.Reading.{IsComeTo, IsUnderWay}
 use Rattle.obo_frames.specs.declared.fault.DocFault.{DocFault}
