@@ -1,3 +1,4 @@
+pub mod FeedLemmas
 pub mod ReadLemmas
 pub mod ListLemmas
 mod OnceLemmas
