@@ -1,8 +1,8 @@
 -- What was fed of a file so far, piece by piece.
-use Rattle.std.proofs.Common.{◌≡◌, ℕ, ◌+◌, ◌-◌, ◌<◌, ◌≤◌, List, [], ◌++◌, Some, Err, IfSome, IsTrue, length, take, refl, sym, subst, ap, ◌∙◌, arith, length-append, length-take}
+use Rattle.std.proofs.Common.{◌≡◌, ℕ, ◌+◌, ◌-◌, ◌<◌, ◌≤◌, List, [], ◌++◌, Err, IfSome, IsTrue, length, take, refl, subst, ap, ◌∙◌, arith, length-append, length-take}
 use Rattle.rel_io.specs.Folder.{ReadsEnd, open_file_bytes}
 use Rattle.rel_io.specs.FolderState.{FolderState, NoCountFell}
-use Rattle.obo_frames.specs.Feeding.{Feeder, IsFed, after_piece, fresh}
+use Rattle.obo_frames.specs.Feeding.{Feeder, fresh}
 use Rattle.obo_frames.proofs.FeedingLemmas.{fed_more, fed_nothing}
 use Rattle.import_closure.specs.ReadFile.{ReadsMore, ReadsTooMuch}
 use Rattle.import_closure.specs.declared.feed.Fed.{Fed}

@@ -3,4 +3,5 @@ pub mod ReadLemmas
 pub mod ListLemmas
 mod OnceLemmas
 pub mod LoadingLemmas
+pub mod SourceLemmas
 pub mod TurnLemmas
