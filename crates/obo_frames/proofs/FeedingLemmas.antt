@@ -52,7 +52,7 @@ pub feeders_join : (f : Feeder) (x y : List ℕ) → after_piece (after_piece f 
 feeders_join f x y =
     let count : f.fed + length x + length y ≡ f.fed + length (x ++ y) = omega (arith, length-append x y) in
     let read = then-then f.read (λ midway. read_piece midway x) (λ midway. read_piece midway y)
-        ∙ (λ i. then_read f.read (λ midway. pieces_join midway x y i)) in
+    ∙ (λ i. then_read f.read (λ midway. pieces_join midway x y i)) in
     (λ i. record { fed = count i; read = read i })
 
 -- ---- what all lines come to

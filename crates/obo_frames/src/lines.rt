@@ -33,11 +33,7 @@ pub fn nothing_read(alloc: Global) -> SoFar
 }
 
 /// All lines that wait are taken and read, up to the first faulty one. None is kept.
-pub fn read_waiting(
-    alloc: Global,
-    lines: &mut LineFeeder,
-    so_far: SoFar,
-) -> Result<SoFar, DocFault>
+pub fn read_waiting(alloc: Global, lines: &mut LineFeeder, so_far: SoFar) -> Result<SoFar, DocFault>
     requires { lines.old.is_spent ≡ false }
     ensures read { feeding.IsAnswer (feeding.read_items so_far lines.old.lines.waiting) result }
     ensures emptied { OnOk result (lines.new ≡ feeding.emptied lines.old) }
