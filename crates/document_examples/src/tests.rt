@@ -3,6 +3,7 @@ mod clauses;
 mod documents;
 mod iris;
 mod lines;
+mod pieces;
 mod printed;
 mod tables;
 mod tags;

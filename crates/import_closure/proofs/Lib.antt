@@ -1,5 +1,7 @@
+pub mod FeedLemmas
 pub mod ReadLemmas
 pub mod ListLemmas
 mod OnceLemmas
 pub mod LoadingLemmas
+pub mod SourceLemmas
 pub mod TurnLemmas

@@ -31,6 +31,14 @@ impl From<AllocError> for FileFault {
     }
 }
 
+impl From<rel_io::NoMemory> for FileFault {
+    ghost from_gives = { λ _ fault. fault ≡ NoMemory };
+
+    fn from(_: rel_io::NoMemory) -> FileFault {
+        FileFault::NoMemory
+    }
+}
+
 /// The bytes of a file, which are read in pieces to its end or to the first byte past the limit.
 pub fn read_file<F: Folder>(
     alloc: Global,
@@ -95,7 +103,7 @@ fn read_piece<F: Folder>(
 }
 
 /// A buffer for one piece.
-fn empty_buffer(alloc: Global) -> Result<Vec<u8>, AllocError>
+pub fn empty_buffer(alloc: Global) -> Result<Vec<u8>, AllocError>
     ensures { IfOk result (λ buffer. vec_len buffer ≡ PIECE) }
 {
     vec![in alloc; 0u8; PIECE]

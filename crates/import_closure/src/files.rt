@@ -5,17 +5,19 @@ ghost use Rattle.indexmap.specs.IndexMap.{index_map_len};
 ghost use Rattle.rel_io.specs.FolderState.{NoCountFell};
 ghost use Rattle.catalog_file.specs.Names.{TellsNames};
 ghost use Rattle.catalog_file.specs.declared.catalog.CatalogLine.{CatalogLine};
+ghost use Rattle.obo_frames.specs.Feeding.{finished};
 ghost use Rattle.import_closure.specs.Closure.{closure, reading, setting};
 ghost use Rattle.import_closure.specs.Loading.{LoadsAs, Same};
 ghost use Rattle.import_closure.specs.List.{listed};
 ghost use Rattle.import_closure.specs.inner.Turns.{HasTurn, IsSource, TakesTurn};
 
 use crate::catalog::read_names;
+use crate::feed::{Fed, feed_file};
 use crate::list::{add_imports, listed_inputs};
 use crate::unread::{faulty, unread};
-use crate::{Asker, LoadFault, read_file};
+use crate::{Asker, LoadFault};
 use indexmap::IndexMap;
-use obo_frames::{Document, read_document};
+use obo_frames::Document;
 use rel_io::{Bytes, Dup, Folder, Items, Limits};
 use std::alloc::Global;
 use std::collections::BTreeMap;
@@ -40,9 +42,10 @@ pub struct Turn {
 
 /// Reads the catalog, if there is one, the inputs and what they import. The list of files begins with the inputs, without
 /// repeats; each file behind its turn appends what it imports that is not on the list yet. The files are read in the order
-/// of the list, each whole, by reads into 65,536 bytes. The first refusal is answered: of the catalog; of a file its place
+/// of the list, each to its end, by reads into 65,536 bytes. The first refusal is answered: of the catalog; of a file its place
 /// in the list, that it is not there, that it has too many bytes with those before it, and then the first fault of its
-/// document. Names are looked up in a table, so the time goes by the bytes that are read.
+/// document. Names are looked up in a table, so the time goes by the bytes that are read. No file is held whole as bytes: of
+/// each, what is read is fed to its document.
 pub fn read_files<F: Folder>(
     alloc: Global,
     folder: &mut F,
@@ -126,21 +129,20 @@ fn read_source<F: Folder>(
     ensures holds { (F.state folder.new).holds ≡ (F.state folder.old).holds }
     ensures counts { NoCountFell (F.state folder.old) (F.state folder.new) }
 {
-    match read_file(alloc, folder, name, left) {
-        Ok(bytes) => source_of(alloc, name, &bytes, limits.line),
+    match feed_file(alloc, folder, name, left, limits.line) {
+        Ok(fed) => source_of(alloc, name, fed),
         Err(fault) => Err(unread(alloc, fault, name, asker, limits.bytes)),
     }
 }
 
-/// The document of the bytes of a file.
-fn source_of(alloc: Global, name: &Bytes, bytes: &Bytes, line_limit: u32) -> Result<Turn, LoadFault>
-    requires { length bytes.now < 2 ^ 32 }
-    ensures { IsSource line_limit name.now bytes.now result }
+/// The document of a file that was fed.
+fn source_of(alloc: Global, name: &Bytes, fed: Fed) -> Result<Turn, LoadFault>
+    ensures { IsSource name.now (finished fed.feeder) fed.size result }
 {
-    match read_document(alloc, bytes.as_slice(), line_limit) {
+    let Fed { feeder, size } = fed;
+    match feeder.finish() {
         Ok(document) => {
             let name = name.copy(alloc)?;
-            let size = bytes.as_slice().len() as u64;
             Ok(Turn {
                 source: SourceFile { name, document },
                 size,

@@ -1,10 +1,11 @@
 //! The files of a run: the inputs and what they import, each read once, in the order of a list. The names of imports are found
-//! by a catalog. Each file is read whole and is a document, or the first refusal of the list is named. The layer above makes
-//! one ontology of the documents.
+//! by a catalog. Each file is read to its end and is a document, or the first refusal of the list is named; it is read in
+//! pieces, and of its bytes no more than a piece and a line is held. The layer above makes one ontology of the documents.
 #![tactic(auto)]
 
 mod catalog;
 mod fault;
+mod feed;
 mod file;
 mod files;
 mod laws;

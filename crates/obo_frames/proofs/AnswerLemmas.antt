@@ -17,7 +17,9 @@ use Rattle.obo_frames.specs.declared.placed.Placed.{Placed}
 use Rattle.obo_frames.specs.declared.told.Place.{Place}
 use Rattle.obo_frames.specs.declared.told.Told.{Told}
 use Rattle.obo_clause.proofs.AnswerLemmas.{answer-is-fault, answer-is-said}
-use Rattle.obo_frames.proofs.OneLemmas.{has_one_fault, is_never_both, is_one_document}
+use Rattle.obo_frames.specs.Feeding.{IsAnswer}
+use Rattle.obo_frames.specs.inner.Reading.{IsItemFault}
+use Rattle.obo_frames.proofs.OneLemmas.{body_fault, has_one_fault, is_never_both, is_one_document, never_says, same_fault, told_one}
 
 -- ---- one line
 
@@ -33,6 +35,27 @@ body_is_answered : (at : Place) (number : ℕ) (text : LineBody) → IsBodyAnswe
 body_is_answered at number (body.Text text) = text_is_answered at number text (answer_to at.kind at.is_first text) refl
 body_is_answered at number body.NotUtf8 = not_utf8
 body_is_answered at number body.TooLong = too_long
+
+-- what is told of a line, or its fault, is the answer to it
+
+told_is_answer : (at : Place) (item : LineItem) (answer : Result Told DocFault) (told : Told) → IsBodyAnswer at item.number item.body answer → IsTold at item told → Ok told ≡ answer
+told_is_answer at item (Ok other) told answered is =
+    ap Ok (told_one at item told other is (record { line = answered.0; says = answered.1 }))
+told_is_answer at item (Err one) told answered is =
+    absurd (never_says at item.number item.body told.said one is.says (body_fault at item.number item.body one answered))
+
+fault_is_answer : (at : Place) (item : LineItem) (answer : Result Told DocFault) (one : DocFault) → IsBodyAnswer at item.number item.body answer → BodyFails at item.number item.body one → Err one ≡ answer
+fault_is_answer at item (Ok told) one answered fails =
+    absurd (never_says at item.number item.body told.said one answered.1 (body_fault at item.number item.body one fails))
+fault_is_answer at item (Err other) one answered fails =
+    ap Err (same_fault at item.number item.body one other (body_fault at item.number item.body one fails) (body_fault at item.number item.body other answered))
+
+pub item_is_answered : (at : Place) (item : LineItem) (result : Result Told DocFault) → IfOk result (IsTold at item) → IfErr result (IsItemFault at item) → IsAnswer (body_answer at item.number item.body) result
+item_is_answered at item (Ok told) is fault =
+    inl (told_is_answer at item (body_answer at item.number item.body) told (body_is_answered at item.number item.body) is)
+item_is_answered at item (Err one) told (inl fails) =
+    inl (fault_is_answer at item (body_answer at item.number item.body) one (body_is_answered at item.number item.body) fails)
+item_is_answered at item (Err one) told (inr is) = inr (ap Err is)
 
 -- ---- all lines
 
@@ -97,8 +120,14 @@ is_exact limit bytes =
       fault = λ one. (λ e. subst (IsFileAnswer limit bytes) e answered, fault_is_answered limit bytes (document_of limit bytes) answered one);
     }
 
--- an answer that is the document of the file, or its first fault or want of memory, is that of the function
-pub answers_it : (limit : ℕ) (bytes : List ℕ) (result : Result (List Placed) DocFault) → IfOk result (IsDocument limit bytes) → IfErr result (IsFaultOfFile limit bytes) → AnswersIt limit bytes result
-answers_it limit bytes (Ok placed) document fault = inl (sym (((is_exact limit bytes).document placed).1 document))
-answers_it limit bytes (Err one) document (inl is) = inl (sym (((is_exact limit bytes).fault one).1 is))
-answers_it limit bytes (Err one) document (inr is) = inr (ap Err is)
+-- what is answered, where it is what the function tells or want of memory
+
+pub document_answered : (limit : ℕ) (bytes : List ℕ) (result : Result (List Placed) DocFault) → AnswersIt limit bytes result → IfOk result (IsDocument limit bytes)
+document_answered limit bytes (Ok placed) (inl is) = ((is_exact limit bytes).document placed).0 (sym is)
+document_answered limit bytes (Ok placed) (inr none) = absurd (cc)
+document_answered limit bytes (Err one) answer = tt
+
+pub fault_answered : (limit : ℕ) (bytes : List ℕ) (result : Result (List Placed) DocFault) → AnswersIt limit bytes result → IfErr result (IsFaultOfFile limit bytes)
+fault_answered limit bytes (Ok placed) answer = tt
+fault_answered limit bytes (Err one) (inl is) = inl (((is_exact limit bytes).fault one).0 (sym is))
+fault_answered limit bytes (Err one) (inr none) = inr (cc)

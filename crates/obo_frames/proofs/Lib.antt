@@ -1,6 +1,6 @@
 pub mod AnswerLemmas
-pub mod DraftLemmas
 pub mod FaultLemmas
+pub mod FeedingLemmas
 pub mod GroupLemmas
 pub mod LawLemmas
 pub mod LeastLemmas

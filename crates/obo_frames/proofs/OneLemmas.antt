@@ -25,23 +25,23 @@ body_says_one at body.NotUtf8 one other first second = absurd first
 body_says_one at body.TooLong one other first second = absurd first
 
 -- what a fault of a body is, case by case
-abbrev IsBodyFault : Place → ℕ → LineBody → DocFault → Type 0
+abbrev pub IsBodyFault : Place → ℕ → LineBody → DocFault → Type 0
 IsBodyFault at number (body.Text text) one = (kind : SyntaxKind) × (one ≡ fault.Syntax number kind) × Fails at.kind at.is_first text kind
 IsBodyFault at number body.NotUtf8 one = one ≡ fault.NotUtf8 number
 IsBodyFault at number body.TooLong one = one ≡ fault.LineTooLong number
 
-body_fault : (at : Place) (number : ℕ) (text : LineBody) (one : DocFault) → BodyFails at number text one → IsBodyFault at number text one
+pub body_fault : (at : Place) (number : ℕ) (text : LineBody) (one : DocFault) → BodyFails at number text one → IsBodyFault at number text one
 body_fault at number text one not_utf8 = refl
 body_fault at number text one too_long = refl
 body_fault at number text one (syntax line kind fails) = (kind, refl, fails)
 
-same_fault : (at : Place) (number : ℕ) (text : LineBody) (one other : DocFault) → IsBodyFault at number text one → IsBodyFault at number text other → one ≡ other
+pub same_fault : (at : Place) (number : ℕ) (text : LineBody) (one other : DocFault) → IsBodyFault at number text one → IsBodyFault at number text other → one ≡ other
 same_fault at number (body.Text text) one other first second =
     first.1 ∙ ap (λ kind. fault.Syntax number kind) (fails-one-way at.kind at.is_first text first.0 second.0 first.2 second.2) ∙ sym second.1
 same_fault at number body.NotUtf8 one other first second = first ∙ sym second
 same_fault at number body.TooLong one other first second = first ∙ sym second
 
-never_says : (at : Place) (number : ℕ) (text : LineBody) (said : Line) (one : DocFault) → BodySays at text said → IsBodyFault at number text one → ⊥
+pub never_says : (at : Place) (number : ℕ) (text : LineBody) (said : Line) (one : DocFault) → BodySays at text said → IsBodyFault at number text one → ⊥
 never_says at number (body.Text text) said one says fails = never-both at.kind at.is_first text said fails.0 says fails.2
 never_says at number body.NotUtf8 said one says fails = says
 never_says at number body.TooLong said one says fails = says
@@ -54,7 +54,7 @@ body_answers at number body.TooLong = inr (fault.LineTooLong number, too_long)
 
 -- ---- all lines
 
-told_one : (at : Place) (item : LineItem) (one other : Told) → IsTold at item one → IsTold at item other → one ≡ other
+pub told_one : (at : Place) (item : LineItem) (one other : Told) → IsTold at item one → IsTold at item other → one ≡ other
 told_one at item one other first second =
     let line = first.line ∙ sym second.line in
     let said = body_says_one at item.body one.said other.said first.says second.says in

@@ -1,5 +1,5 @@
 -- What the definitions of documents amount to, in other words. (Own.)
-use Rattle.std.specs.Prelude.{◌≡◌, ◌⊎◌, ◌↔◌, ◌≤◌, ℕ, Bool, List, [], Option, None, Some, codes, Contains, map}
+use Rattle.std.specs.Prelude.{◌≡◌, ◌⊎◌, ◌↔◌, ◌≤◌, ℕ, Bool, List, [], ◌++◌, Option, None, Some, codes, Contains, map}
 use Rattle.std.specs.List.Sorted.{IsStrictlyIncreasing}
 use Rattle.std.specs.declared.cmp.Ordering.TheVariants.{Less}
 use Rattle.text_sets.specs.Sets.{In}
@@ -8,7 +8,9 @@ use Rattle.obo_lexer.specs.Items.{lines_of}
 use Rattle.obo_lexer.specs.declared.line.LineBody.TheVariants as body
 use Rattle.obo_clause.specs.Spelling.{Spells}
 use Rattle.obo_clause.specs.declared.clause.Qualifier.{Qualifier}
+use Rattle.obo_frames.specs.Answer.{document_of}
 use Rattle.obo_frames.specs.Documents.{IsDocument, IsFirstFault, first_fault}
+use Rattle.obo_frames.specs.Feeding.{Feeder, IsFed, after_piece, finished, fresh}
 use Rattle.obo_frames.specs.Frames.{Frame, first_id, frames_of, placed_of}
 use Rattle.obo_frames.specs.Framed.{Framed, SameClauses, unlined}
 use Rattle.obo_frames.specs.Groups.{operands_in}
@@ -124,3 +126,22 @@ IsOneDocument limit bytes =
 abbrev pub HasOneFault : ℕ → List ℕ → Type 0
 HasOneFault limit bytes =
     (one other : DocFault) → IsFirstFault limit bytes one → IsFirstFault limit bytes other → one ≡ other
+
+-- ---- pieces
+
+-- feeding a piece and then another is feeding both together
+abbrev pub PiecesJoin : Type 0
+PiecesJoin = (f : Feeder) (x y : List ℕ) → after_piece (after_piece f x) y ≡ after_piece f (x ++ y)
+
+-- a feeder to which these bytes were fed, in some pieces
+pub data Run (limit : ℕ) : List ℕ → Feeder → Type 0 where
+  starting : Run limit [] (fresh limit)
+  feeding : (bytes : List ℕ) (f : Feeder) (piece : List ℕ) → Run limit bytes f → Run limit (bytes ++ piece) (after_piece f piece)
+
+-- however the bytes were cut: the feeder is as if they had been fed at once, and at the end it comes to what the file is
+pub record RunReadsFile (limit : ℕ) (bytes : List ℕ) (f : Feeder) : Type 0 where
+  pub fed : IsFed limit bytes f
+  pub comes : finished f ≡ document_of limit bytes
+
+abbrev pub RunsReadFiles : Type 0
+RunsReadFiles = (limit : ℕ) (bytes : List ℕ) (f : Feeder) → Run limit bytes f → RunReadsFile limit bytes f

@@ -1,5 +1,6 @@
 pub mod Answer
 pub mod Documents
+pub mod Feeding
 pub mod Framed
 pub mod Frames
 pub mod Groups

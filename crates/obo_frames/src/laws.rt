@@ -1,6 +1,6 @@
 //! What the definitions of this crate amount to. Each law is the contract of a function that does nothing.
 ghost use Rattle.obo_frames.specs.Answer.{IsExact};
-ghost use Rattle.obo_frames.specs.Laws.{FirstFaultIsLeast, HasOneFault, IsDocumentOrFault, IsNeverBoth, IsOneDocument, LinesRise, LinesSpell, NameIsLeast, SameClausesSayTheSame};
+ghost use Rattle.obo_frames.specs.Laws.{FirstFaultIsLeast, HasOneFault, IsDocumentOrFault, IsNeverBoth, IsOneDocument, LinesRise, LinesSpell, NameIsLeast, PiecesJoin, RunsReadFiles, SameClausesSayTheSame};
 
 /// A file is one document, or it has one first fault, and never both.
 pub fn file_is_document_or_fault(bytes: &[u8], line_limit: u32)
@@ -15,6 +15,13 @@ pub fn file_is_document_or_fault(bytes: &[u8], line_limit: u32)
 pub fn lines_are_placed(bytes: &[u8], line_limit: u32)
     ensures rise { LinesRise line_limit bytes.now }
     ensures spell { LinesSpell line_limit bytes.now }
+{}
+
+/// How a file is cut into pieces does not matter: a feeder to which they were fed comes to the document of the whole file,
+/// or to its first fault.
+pub fn cutting_does_not_matter()
+    ensures pieces { PiecesJoin }
+    ensures runs { RunsReadFiles }
 {}
 
 /// Of all frames without an id and all clauses of short groups the first fault names the least line; without one there

@@ -6,20 +6,24 @@
 
 mod document;
 mod fault;
+mod feeder;
 mod groups;
+mod judged;
 mod laws;
 mod lines;
 mod name;
 mod placed;
 mod read;
+mod reading;
 mod standing;
 mod told;
 
 pub use document::Document;
 pub use fault::DocFault;
+pub use feeder::DocumentFeeder;
 pub use laws::{
-    clauses_are_a_set, file_is_document_or_fault, file_is_told, first_fault_is_least,
-    lines_are_placed, name_is_least,
+    clauses_are_a_set, cutting_does_not_matter, file_is_document_or_fault, file_is_told,
+    first_fault_is_least, lines_are_placed, name_is_least,
 };
 pub use name::ontology_name;
 pub use placed::Placed;

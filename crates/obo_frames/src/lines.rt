@@ -1,8 +1,9 @@
-//! The lines of a file, each read where it stands.
-ghost use Rattle.std.specs.Prelude.{◌≡◌, ◌^◌, ◌<◌, IfErr, IfOk, false, length};
-ghost use Rattle.obo_lexer.specs.Items.{lines_of};
+//! Lines as they come, each read where it stands.
+ghost use Rattle.std.specs.Prelude.{◌≡◌, IfErr, IfOk, OnOk, false};
+ghost use Rattle.obo_frames.specs.Answer.{body_answer};
+ghost use Rattle.obo_frames.specs.Feeding as feeding;
 ghost use Rattle.obo_frames.specs.Telling.{IsTold};
-ghost use Rattle.obo_frames.specs.inner.Reading.{IsItemFault, IsLineFault, IsRead};
+ghost use Rattle.obo_frames.specs.inner.Reading.{IsItemFault};
 
 use crate::DocFault;
 use crate::standing::{Draft, empty_draft, placed_more};
@@ -10,36 +11,56 @@ use crate::told::{Place, Told, place_after, start};
 use clause_reader::read_line;
 use obo_clause::LineFault;
 use obo_lexer::{LineBody, LineFeeder, LineItem};
-use rel_io::NoMemory;
 use std::alloc::Global;
 
-/// All lines of the file read and their clauses placed, or what is wrong with the first faulty line.
-pub fn read_lines(alloc: Global, bytes: &[u8], limit: u32) -> Result<Draft, DocFault>
-    requires { length bytes.now < 2 ^ 32 }
-    ensures read { IfOk result (IsRead limit bytes.now) }
-    ensures fails { IfErr result (IsLineFault limit bytes.now) }
-{
-    let mut feeder = fed_with(alloc, bytes, limit)?;
-    let mut place = start();
-    let mut draft = empty_draft(alloc);
-    while let Some(item) = feeder.take_line() {
-        let told = read_item(alloc, place, item)?;
-        place = place_after(place, &told.said);
-        draft = placed_more(alloc, draft, told)?;
-    }
-    Ok(draft)
+/// What the lines so far come to.
+#[derive(Drop)]
+pub struct SoFar {
+    /// Where the next line stands.
+    pub place: Place,
+    /// The clauses, in their places.
+    pub draft: Draft,
 }
 
-/// All lines of the file, waiting to be taken.
-fn fed_with(alloc: Global, bytes: &[u8], limit: u32) -> Result<LineFeeder, NoMemory>
-    requires { length bytes.now < 2 ^ 32 }
-    ensures waiting { IfOk result (λ feeder. feeder.lines.waiting ≡ lines_of limit bytes.now) }
-    ensures whole { IfOk result (λ feeder. feeder.is_spent ≡ false) }
+/// No line was read.
+pub fn nothing_read(alloc: Global) -> SoFar
+    ensures { result ≡ feeding.nothing_read }
 {
-    let mut feeder = LineFeeder::new(alloc, limit)?;
-    feeder.feed(bytes)?;
-    feeder.finish()?;
-    Ok(feeder)
+    SoFar {
+        place: start(),
+        draft: empty_draft(alloc),
+    }
+}
+
+/// All lines that wait are taken and read, up to the first faulty one. None is kept.
+pub fn read_waiting(alloc: Global, lines: &mut LineFeeder, so_far: SoFar) -> Result<SoFar, DocFault>
+    requires { lines.old.is_spent ≡ false }
+    ensures read { feeding.IsAnswer (feeding.read_items so_far lines.old.lines.waiting) result }
+    ensures emptied { OnOk result (lines.new ≡ feeding.emptied lines.old) }
+{
+    let mut so_far = so_far;
+    while let Some(item) = lines.take_line() {
+        so_far = read_on(alloc, so_far, item)?;
+    }
+    Ok(so_far)
+}
+
+/// One line more.
+fn read_on(alloc: Global, so_far: SoFar, item: LineItem) -> Result<SoFar, DocFault>
+    ensures { feeding.IsAnswer (feeding.read_item so_far item) result }
+{
+    let SoFar { place, draft } = so_far;
+    let told = answered(alloc, place, item)?;
+    let place = place_after(place, &told.said);
+    let draft = placed_more(alloc, draft, told)?;
+    Ok(SoFar { place, draft })
+}
+
+/// What a line says where it stands, or what is wrong with it.
+fn answered(alloc: Global, place: Place, item: LineItem) -> Result<Told, DocFault>
+    ensures { feeding.IsAnswer (body_answer place item.number item.body) result }
+{
+    read_item(alloc, place, item)
 }
 
 /// What a line says where it stands, or what is wrong with it.

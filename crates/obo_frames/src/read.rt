@@ -1,12 +1,9 @@
 //! `read_document`: the document of a file, or its first fault.
-ghost use Rattle.std.specs.Prelude.{◌≡◌, ◌^◌, ◌<◌, IfErr, IfOk, length};
+ghost use Rattle.std.specs.Prelude.{◌^◌, ◌<◌, IfErr, IfOk, length};
 ghost use Rattle.obo_frames.specs.Answer.{AnswersIt};
-ghost use Rattle.obo_frames.specs.Documents.{AnswersDocument, AnswersFault, IsDocument, IsFaultOfFile, frame_fault};
+ghost use Rattle.obo_frames.specs.Documents.{AnswersDocument, AnswersFault, IsDocument, IsFaultOfFile};
 
-use crate::groups::short_line;
-use crate::lines::read_lines;
-use crate::standing::{Draft, lost_at_end};
-use crate::{DocFault, Document};
+use crate::{DocFault, Document, DocumentFeeder};
 use std::alloc::Global;
 
 /// The document of a file with lines of at most `line_limit` bytes, or its first fault: the least faulty line, and
@@ -20,44 +17,15 @@ pub fn read_document(alloc: Global, bytes: &[u8], line_limit: u32) -> Result<Doc
     ensures refused { AnswersFault line_limit bytes.now result }
     ensures answer { AnswersIt line_limit bytes.now result }
 {
-    judged(alloc, bytes, line_limit)
+    fed_whole(alloc, bytes, line_limit)
 }
 
-/// The document of a file, or its first fault.
-fn judged(alloc: Global, bytes: &[u8], line_limit: u32) -> Result<Document, DocFault>
+/// What the file comes to that is fed as one piece.
+fn fed_whole(alloc: Global, bytes: &[u8], line_limit: u32) -> Result<Document, DocFault>
     requires { length bytes.now < 2 ^ 32 }
-    ensures document { IfOk result (IsDocument line_limit bytes.now) }
-    ensures fault { IfErr result (IsFaultOfFile line_limit bytes.now) }
+    ensures { AnswersIt line_limit bytes.now result }
 {
-    let draft = read_lines(alloc, bytes, line_limit)?;
-    let Draft {
-        standing,
-        placed,
-        lost,
-    } = draft;
-    let lost = lost_at_end(&standing, lost);
-    drop(standing);
-    let short = short_line(alloc, placed.as_slice())?;
-    match frame_fault(lost, short) {
-        Some(fault) => Err(fault),
-        None => Ok(Document::of(placed)),
-    }
-}
-
-/// Of a frame without an id and a short group, at these lines, the one whose line is least.
-fn frame_fault(lost: Option<u32>, short: Option<u32>) -> Option<DocFault>
-    ensures { result ≡ frame_fault lost short }
-{
-    match (lost, short) {
-        (None, None) => None,
-        (None, Some(line)) => Some(DocFault::ShortGroup { line }),
-        (Some(line), None) => Some(DocFault::NoId { line }),
-        (Some(frame), Some(group)) => {
-            if group < frame {
-                Some(DocFault::ShortGroup { line: group })
-            } else {
-                Some(DocFault::NoId { line: frame })
-            }
-        }
-    }
+    let mut feeder = DocumentFeeder::new(alloc, line_limit)?;
+    feeder.feed(bytes)?;
+    feeder.finish()
 }

@@ -32,7 +32,7 @@ pub struct Draft {
     /// What the next clause belongs to.
     pub standing: Standing,
     /// The clauses, in the order of their lines.
-    pub placed: Vec<Placed>,
+    pub placed: Items<Placed>,
     /// The least line at which a frame without an id begins.
     pub lost: Option<u32>,
 }
@@ -40,12 +40,12 @@ pub struct Draft {
 /// Nothing is placed, and the clauses of the header come next.
 pub fn empty_draft(alloc: Global) -> Draft
     ensures standing { result.standing ≡ Header }
-    ensures placed { result.placed.items ≡ [] }
+    ensures placed { result.placed ≡ [] }
     ensures lost { result.lost ≡ None }
 {
     Draft {
         standing: Standing::Header,
-        placed: Vec::new(alloc),
+        placed: Items::from_vec(Vec::new(alloc)),
         lost: None,
     }
 }
@@ -53,7 +53,7 @@ pub fn empty_draft(alloc: Global) -> Draft
 /// One line more.
 pub fn placed_more(alloc: Global, draft: Draft, told: Told) -> Result<Draft, NoMemory>
     ensures standing { IfOk result (λ next. next.standing ≡ behind_line draft.standing told.line told.said) }
-    ensures placed { IfOk result (λ next. next.placed.items ≡ draft.placed.items ++ placed_by_line draft.standing told.line told.said) }
+    ensures placed { IfOk result (λ next. next.placed ≡ draft.placed ++ placed_by_line draft.standing told.line told.said) }
     ensures lost { IfOk result (λ next. next.lost ≡ least_line draft.lost (lost_at_line draft.standing told.said)) }
 {
     let Told { line, said } = told;
@@ -94,7 +94,7 @@ pub fn lesser_line(best: Option<u32>, line: u32) -> u32
 /// One clause more.
 fn placed_clause(alloc: Global, draft: Draft, line: u32, clause: Clause) -> Result<Draft, NoMemory>
     ensures standing { IfOk result (λ next. next.standing ≡ behind_clause draft.standing clause) }
-    ensures placed { IfOk result (λ next. next.placed.items ≡ draft.placed.items ++ placed_by_clause draft.standing (record { line = line; clause = clause })) }
+    ensures placed { IfOk result (λ next. next.placed ≡ draft.placed ++ placed_by_clause draft.standing (record { line = line; clause = clause })) }
     ensures lost { IfOk result (λ next. next.lost ≡ least_line draft.lost (lost_at_clause draft.standing clause)) }
 {
     let Draft {
@@ -132,7 +132,7 @@ fn placed_clause(alloc: Global, draft: Draft, line: u32, clause: Clause) -> Resu
 /// The first clause of a frame, which is to give the id.
 fn placed_first(
     alloc: Global,
-    placed: Vec<Placed>,
+    placed: Items<Placed>,
     lost: Option<u32>,
     kind: FrameKind,
     begun: u32,
@@ -140,7 +140,7 @@ fn placed_first(
     clause: Clause,
 ) -> Result<Draft, NoMemory>
     ensures standing { IfOk result (λ next. next.standing ≡ named kind (spec.id_in clause)) }
-    ensures placed { IfOk result (λ next. next.placed.items ≡ placed.items ++ place_first kind (spec.id_in clause) (record { line = line; clause = clause })) }
+    ensures placed { IfOk result (λ next. next.placed ≡ placed ++ place_first kind (spec.id_in clause) (record { line = line; clause = clause })) }
     ensures lost { IfOk result (λ next. next.lost ≡ least_line lost (lost_unless (spec.id_in clause) begun)) }
 {
     let Some(id) = id_in(&clause) else {
@@ -167,7 +167,7 @@ fn placed_first(
 /// A clause of the frame with this id.
 fn placed_within(
     alloc: Global,
-    placed: Vec<Placed>,
+    placed: Items<Placed>,
     lost: Option<u32>,
     kind: FrameKind,
     id: Bytes,
@@ -175,7 +175,7 @@ fn placed_within(
     clause: Clause,
 ) -> Result<Draft, NoMemory>
     ensures standing { IfOk result (λ next. next.standing ≡ Within kind id) }
-    ensures placed { IfOk result (λ next. next.placed.items ≡ placed.items ++ spec.place_entry kind id (record { line = line; clause = clause }) ∷ []) }
+    ensures placed { IfOk result (λ next. next.placed ≡ placed ++ spec.place_entry kind id (record { line = line; clause = clause }) ∷ []) }
     ensures lost { IfOk result (λ next. next.lost ≡ lost) }
 {
     match id.copy(alloc) {
@@ -197,19 +197,20 @@ fn placed_within(
 
 /// One placed clause more, and what the clauses behind it belong to.
 fn with_placed(
-    mut placed: Vec<Placed>,
+    placed: Items<Placed>,
     lost: Option<u32>,
     one: Placed,
     standing: Standing,
 ) -> Result<Draft, NoMemory>
     ensures standing { IfOk result (λ next. next.standing ≡ standing) }
-    ensures placed { IfOk result (λ next. next.placed.items ≡ placed.items ++ one ∷ []) }
+    ensures placed { IfOk result (λ next. next.placed ≡ placed ++ one ∷ []) }
     ensures lost { IfOk result (λ next. next.lost ≡ lost) }
 {
-    placed.push(one)?;
+    let mut items = placed.into_vec();
+    items.push(one)?;
     Ok(Draft {
         standing,
-        placed,
+        placed: Items::from_vec(items),
         lost,
     })
 }

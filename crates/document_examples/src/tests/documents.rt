@@ -1,4 +1,5 @@
 //! Documents of small files, with answers worked out by hand from the rules.
+use super::pieces::is_same_in_pieces;
 use crate::{bytes_of, push, wrong_in};
 use obo_frames::{Document, Placed, read_document};
 use rel_io::{Dup, NoMemory};
@@ -9,7 +10,7 @@ use std::test::Fail;
 const LIMIT: u32 = 60;
 
 /// A file, and its fault, or how many clauses its document has and each of them: the kind and the id of its frame, its
-/// line, its tag and the number of its qualifiers.
+/// line, its tag and the number of its qualifiers; the same however the file is cut.
 const FILES: &str = " => 0
 || ! nothing| => 0
 format-version: 1.2|ontology: ex||[Term]|id: EX:2|name: wheel|is_a part => Syntax { line: 7, kind: NoColon }
@@ -69,7 +70,11 @@ ontology: ey|ontology: ex|ontology: ez|[Term]|id: A:1|union_of: x|union_of: http
 ontology: http://purl.obolibrary.org/obo/ex.owl|[Term]|id: A:1|union_of: x|union_of: http://purl.obolibrary.org/obo/ex#x => ShortGroup { line: 4 }
 [Term]|id: A:1|union_of: x|union_of: http://purl.obolibrary.org/obo/TEMP#x => ShortGroup { line: 3 }
 [Term]|id: A:1|ontology: ex|union_of: x|union_of: http://purl.obolibrary.org/obo/TEMP#x => ShortGroup { line: 4 }
-[Term]|id: A:1|union_of: owl:Thing|union_of: http://purl.obolibrary.org/obo/owl#_Thing => ShortGroup { line: 3 }";
+[Term]|id: A:1|union_of: owl:Thing|union_of: http://purl.obolibrary.org/obo/owl#_Thing => ShortGroup { line: 3 }
+format-version: 1.2@0D@|data-version: releases/2024-01-17@0D@|default-namespace: bike@0D@|subsetdef: slim \"Short list\"@0D@|synonymtypedef: trade \"Trade name\" EXACT@0D@|ontology: bike@0D@|remark: kept by hand@0D@|@0D@|[Term]@0D@|id: BIKE:0000002@0D@|name: wheel ! a comment@0D@|def: \"A round part, with a hub.\" [BIKE:kc, ISBN:123 \"book\"]@0D@|synonym: \"rim set\" BROAD trade [BIKE:kc]@0D@|synonym: \"roller\"@0D@|subset: slim@0D@|xref: WD:Q446 \"wheel\"@0D@|is_a: BIKE:0000001 {source=\"BIKE:kc\", checked=yes} ! part@0D@|@0D@|[Term]@0D@|id: BIKE:0000001@0D@|name: part@0D@|namespace: base@0D@| => 18|Header - 1 format-version 0|Header - 2 data-version 0|Header - 3 default-namespace 0|Header - 4 subsetdef 0|Header - 5 synonymtypedef 0|Header - 6 ontology 0|Header - 7 remark 0|Term BIKE:0000002 10 id 0|Term BIKE:0000002 11 name 0|Term BIKE:0000002 12 def 0|Term BIKE:0000002 13 synonym 0|Term BIKE:0000002 14 synonym 0|Term BIKE:0000002 15 subset 0|Term BIKE:0000002 16 xref 0|Term BIKE:0000002 17 is_a 2|Term BIKE:0000001 20 id 0|Term BIKE:0000001 21 name 0|Term BIKE:0000001 22 namespace 0
+@EF@@BB@@BF@ontology: ex@0D@||[Term]@0D@|id: @C3@@A9@@0D@|name: @C3@@A9@ => 3|Header - 1 ontology 0|Term @C3@@A9@ 4 id 0|Term @C3@@A9@ 5 name 0
+ontology: ex|name: x@C3@|@A9@name: x => NotUtf8 { line: 2 }
+ontology: ex|[Term]|name@FF@|@FE@| => NotUtf8 { line: 3 }";
 
 #[test]
 fn files_are_documents_or_faults(rt: HostRuntime) -> Result<(), Fail> {
@@ -78,14 +83,16 @@ fn files_are_documents_or_faults(rt: HostRuntime) -> Result<(), Fail> {
     Ok(())
 }
 
-/// What a file is, as the table has it.
+/// What a file is, as the table has it, where it is the same in pieces.
 fn told(alloc: Global, file: &str) -> Result<Vec<u8>, NoMemory> {
     let file = bytes_of(alloc, file)?;
     if file.len() > 1000 {
         return Ok(file);
     }
     let read = read_document(alloc, file.as_slice(), LIMIT);
+    let is_same = is_same_in_pieces(alloc, file.as_slice(), LIMIT, &read);
     let told = match &read {
+        _ if !is_same => Ok(Vec::from_slice(alloc, b"another in pieces")?),
         Ok(document) => shown(alloc, document),
         Err(fault) => Ok(format!(in alloc; "{:?}", fault.copy(alloc)?)?.into_bytes()),
     };

@@ -1,11 +1,12 @@
 -- What the turn of a file answers, beside its document how many bytes were read. Only private functions speak of it. (Own.)
-use Rattle.std.specs.Prelude.{◌≡◌, ◌⊎◌, ◌<◌, ◌≤◌, ℕ, List, Option, Some, Result, Ok, Err, IfSome, length, slice_get}
+use Rattle.std.specs.Prelude.{◌≡◌, ◌⊎◌, ◌<◌, ◌≤◌, ℕ, List, Option, Some, Result, Ok, Err, IfSome, slice_get}
 use Rattle.std.specs.BTreeMap.{BTreeMap}
 use Rattle.rel_io.specs.FolderState.{Files, FolderState}
 use Rattle.rel_io.specs.declared.limits.Limits.{Limits}
 use Rattle.catalog_file.specs.Names.{TellsNames}
 use Rattle.catalog_file.specs.declared.catalog.CatalogLine.{CatalogLine}
-use Rattle.obo_frames.specs.Answer.{document_of}
+use Rattle.obo_frames.specs.declared.fault.DocFault.{DocFault}
+use Rattle.obo_frames.specs.declared.placed.Placed.{Placed}
 use Rattle.catalog_file.specs.Catalog.{catalog_of}
 use Rattle.import_closure.specs.Closure.{catalog_in, catalog_lines, document_answer, missing, size_in, turn}
 use Rattle.import_closure.specs.List.{Listed}
@@ -29,10 +30,10 @@ unread_fault limit name asker file.ReadFault = fault.ReadFault name
 unread_fault limit name asker file.TooManyBytes = fault.TooManyBytes name limit
 unread_fault limit name asker file.NoMemory = fault.NoMemory
 
--- what the bytes of a file answer
-abbrev pub IsSource : ℕ → List ℕ → List ℕ → Result Turn LoadFault → Type 0
-IsSource limit name bytes (Ok taken) = (document_answer name (document_of limit bytes) ≡ Ok taken.source) × (taken.size ≡ length bytes)
-IsSource limit name bytes (Err one) = (document_answer name (document_of limit bytes) ≡ Err one) ⊎ (one ≡ fault.NoMemory)
+-- what a file answers that comes to this, and has so many bytes
+abbrev pub IsSource : List ℕ → Result (List Placed) DocFault → ℕ → Result Turn LoadFault → Type 0
+IsSource name answer size (Ok taken) = (document_answer name answer ≡ Ok taken.source) × (taken.size ≡ size)
+IsSource name answer size (Err one) = (document_answer name answer ≡ Err one) ⊎ (one ≡ fault.NoMemory)
 
 -- what the bytes of a catalog answer
 abbrev pub IsCatalog : ℕ → List ℕ → List ℕ → Result (BTreeMap (List ℕ) (List ℕ)) LoadFault → Type 0

@@ -67,6 +67,11 @@ const LISTS: &str = "\
 9 999 5 11 a.obo -; a.obo=import: b.obo|import: c.obo|; b.obo=!bbbb; c.obo=!c => ReadFault c.obo
 9 999 5 13 a.obo -; a.obo=import: b.obo|import: c.obo|; b.obo=!bbbb; c.obo=!c => ReadFault c.obo
 9 999 5 14 a.obo -; a.obo=import: b.obo|import: c.obo|; b.obo=!bbbb; c.obo=!c => a.obo b.obo c.obo
+9 999 1 99 a.obo -; a.obo=@EF@@BB@@BF@import: é.obo@0D@|; é.obo= => a.obo é.obo
+9 999 5 99 a.obo -; a.obo=x: y|bad|name@FF@| => Syntax a.obo 2 NoColon
+9 999 5 99 a.obo -; a.obo=x: y@C3@|@A9@bad| => NotUtf8 a.obo 1
+9 999 5 3 a.obo -; a.obo=bad|!bbbb|!bbbb => ReadFault a.obo
+9 999 5 99 a.obo -; a.obo=bad|!bbbb|!bbbb => Syntax a.obo 1 NoColon
 9 999 5 0 a.obo c; a.obo=; c= => ReadFault c
 9 999 5 1 a.obo c; a.obo=; c= => ReadFault c
 9 999 5 2 a.obo c; a.obo=; c= => ReadFault a.obo";
