@@ -7,6 +7,7 @@ mod axioms;
 mod boxes;
 mod forest;
 mod kinds;
+mod pooled;
 mod rows;
 mod trees;
 
