@@ -7,7 +7,9 @@ mod axioms;
 mod boxes;
 mod forest;
 mod kinds;
+mod plain;
 mod pooled;
+mod renewal;
 mod rows;
 mod trees;
 
@@ -16,4 +18,5 @@ pub use boxes::Boxes;
 pub use forest::{Forest, Look};
 pub use kinds::Locality;
 pub use locality_tables::{ClassFill, Finding, RoleFill};
+pub use plain::{Plain, pool_axiom};
 pub use trees::verdict;
