@@ -14,7 +14,7 @@ use Rattle.expr_pool.specs.declared.cell.Cell.TheVariants as cell
 use Rattle.expr_pool.specs.declared.cell.Node.{Node}
 
 -- the layer of a cell, whose nodes stand for these trees
-pub layer_of : List ClassExpr → Cell → ClassExpr-F ClassExpr
+unfoldable pub layer_of : List ClassExpr → Cell → ClassExpr-F ClassExpr
 layer_of ts cell.Thing = ClassExpr-F.Thing
 layer_of ts cell.Nothing = ClassExpr-F.Nothing
 layer_of ts (cell.Class iri) = ClassExpr-F.Class iri

@@ -3,7 +3,7 @@ ghost use Rattle.std.specs.Prelude.{◌≡◌, ◌+◌, ◌<◌, ◌≤◌, ℕ,
 ghost use Rattle.std.specs.Vec.{vec_capacity};
 ghost use Rattle.expr_pool.specs.Part.{AreBefore};
 ghost use Rattle.expr_pool.specs.Pool.{IsBefore, tree_at};
-ghost use Rattle.locality_core.specs.inner.Renewal.{AllBelow, IsRenewing, IsTurn, LeadUp, Reads, known_at, known_count, known_layer};
+ghost use Rattle.locality_core.specs.inner.Renewal.{AllBelow, IsRenewing, IsTurn, LeadUp, Reads, is_unknown, known_at, known_count, known_layer};
 ghost use Rattle.locality_tables.specs.Verdict.{and_finding, or_finding, verdict_step};
 ghost use Rattle.owl_axioms.specs.Signature.{scope_of};
 ghost use Rattle.owl_axioms.specs.declared.expr.ClassExpr.{ClassExpr, out-ClassExpr};
@@ -12,7 +12,7 @@ ghost use Rattle.locality_tables.specs.declared.finding.Finding.{Finding};
 
 use crate::Locality;
 use crate::rows::{all_of, class_of, exact_of, exchange, max_of, min_of, role_of, some_of};
-use expr_pool::{Cell, Node, Pool};
+use expr_pool::{Cell, Node, Pool, parts_have_nodes};
 use locality_tables::Finding;
 use name_lists::Lists;
 use owl_axioms::{ClassExpr, Sig};
@@ -68,6 +68,7 @@ fn or_of(found: &[Finding], nodes: &[Node]) -> Finding
 }
 
 /// What the row of a cell gives, by what is known of its nodes.
+#[tactic(auto, unfolding(crate::specs::inner::Renewal::known_layer, expr_pool::specs::Pool::nodes_of))]
 fn of_cell<L: Locality>(sig: &Sig, found: &[Finding], cell: &Cell) -> Finding
     requires { IsBefore (length found.now) cell.now }
     ensures { result ≡ verdict_step L.CLASSES L.ROLES (scope_of sig.now) (known_layer found.now cell.now) }
@@ -101,6 +102,13 @@ pub(crate) fn renewed<L: Locality>(
     of_cell::<L>(sig, found, pool.node(node))
 }
 
+/// Whether nothing is known.
+fn is_unknown(found: Finding) -> bool
+    ensures { result ≡ is_unknown found }
+{
+    found == Finding::Unknown
+}
+
 /// The turn of a node: whether it sank to Unknown, and then it waits.
 fn turn<L: Locality>(
     pool: &Pool,
@@ -116,10 +124,13 @@ fn turn<L: Locality>(
     ensures capacity { vec_capacity waiting.new ≡ vec_capacity waiting.old }
 {
     let _count = pool.len();
-    if found[at as usize] == Finding::Unknown {
+    let node = pool.at(at);
+    let before = known(found.as_slice(), node);
+    if is_unknown(before) {
         return false;
     }
-    if renewed::<L>(pool, sig, found.as_slice(), pool.at(at)) != Finding::Unknown {
+    let row = renewed::<L>(pool, sig, found.as_slice(), node);
+    if !is_unknown(row) {
         return false;
     }
     found[at as usize] = Finding::Unknown;
@@ -147,6 +158,7 @@ pub(crate) fn renew_each<L: Locality>(
     ensures capacity { vec_capacity waiting.new ≡ vec_capacity waiting.old }
 {
     let _count = pool.len();
+    parts_have_nodes(pool);
     'nodes: for at in list {
         let _sank = turn::<L>(pool, sig, *at, found, waiting);
     }
