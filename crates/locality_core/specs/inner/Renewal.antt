@@ -2,7 +2,7 @@
 -- wait. (Own.)
 use Rattle.std.specs.Prelude.{ℕ, zero, suc, ◌≡◌, ◌+◌, ◌<◌, ◌⊎◌, Bool, true, false, if◌then◌else◌, List, [], ◌∷◌, ◌++◌, Option, None, Some, get_or, length, map, slice_get, slice_set}
 use Rattle.fact_rows.specs.Member.{In}
-use Rattle.name_lists.specs.Lists.{IsAdded, NamedState}
+use Rattle.name_lists.specs.Lists.{HasNumber, HaveLists, IsAdded, NamedState}
 use Rattle.expr_pool.specs.Part.{parts_of}
 use Rattle.expr_pool.specs.declared.cell.Cell.{Cell}
 use Rattle.expr_pool.specs.declared.cell.Cell.TheVariants as cell
@@ -113,4 +113,12 @@ cell_name _ = None
 -- the number was added to the list of the name, if there is one
 abbrev pub IsUsedBy : Option Name → NamedState → ℕ → NamedState → Type 0
 IsUsedBy None old at new = new ≡ old
-IsUsedBy (Some n) old at new = IsAdded old n at new
+IsUsedBy (Some n) old at new = HaveLists old × IsAdded old n at new
+
+-- the index of the first nodes of a pool
+pub record IsIndexTo (trees : List ClassExpr) (to : ℕ) (wholes : List (List ℕ)) (uses : NamedState) : Type 0 where
+  pub parts : (i j : ℕ) (t p : ClassExpr) → i < to → slice_get trees i ≡ Some t → slice_get trees j ≡ Some p → In p (parts_of t) → In i (get_or wholes j [])
+  pub names : (i : ℕ) (t : ClassExpr) (n : Name) → i < to → slice_get trees i ≡ Some t → top_name t ≡ Some n → HasNumber uses n i
+  pub many : length wholes ≡ length trees
+  pub above : (j i : ℕ) → In i (get_or wholes j []) → i < length trees
+  pub using : (s i : ℕ) → In i (get_or uses.lists s []) → i < length trees
