@@ -126,6 +126,12 @@ count_sunk (Full ∷ found) zero h = omega arith
 count_sunk (Unknown ∷ found) zero h = absurd (true≢false h)
 count_sunk (f ∷ found) (suc at) h = let e = count_sunk found at h in omega (arith, e)
 
+pub known_most : (found : List Finding) → known_count found ≤ length found
+known_most [] = omega arith
+known_most (Empty ∷ found) = let e = known_most found in omega (arith, e)
+known_most (Full ∷ found) = let e = known_most found in omega (arith, e)
+known_most (Unknown ∷ found) = let e = known_most found in omega (arith, e)
+
 by_place : {P : Type 0} (i at : ℕ) → (i ≡ at → P) → ((i ≡ at → ⊥) → P) → P
 by_place zero zero is isnt = is refl
 by_place zero (suc at) is isnt = isnt (λ e. omega (arith, e))
@@ -231,6 +237,14 @@ module _ (classes : ClassFill) (roles : RoleFill) (inside : Scope) (ts : List Cl
     one_turn found' waiting' true (known, low, f, w) = subst (λ fs. IsRenewing classes roles inside ts wholes rest fs waiting') (sym f) (subst (λ ws. IsRenewing classes roles inside ts wholes rest sunk ws) (sym w) (sank low))
     one_turn found' waiting' false (why, f, w) = subst (λ fs. IsRenewing classes roles inside ts wholes rest fs waiting') (sym f) (subst (λ ws. IsRenewing classes roles inside ts wholes rest found ws) (sym w) (stayed why))
 
+-- ---- the nodes that have a name
+
+pub no_users : {P : Type 0} (uses : NamedState) (name : Name) (i : ℕ) → place_of uses name ≡ None → HasNumber uses name i → P
+no_users uses name i none (s, at, h) = none_some s (sym none ∙ at)
+
+pub some_users : (uses : NamedState) (name : Name) (i at : ℕ) → place_of uses name ≡ Some at → HasNumber uses name i → In i (get_or uses.lists at [])
+some_users uses name i at here_is (s, there_is, h) = subst (λ k. In i (get_or uses.lists k [])) (some_is (sym there_is ∙ here_is)) h
+
 -- ---- the beginning: a name more
 
 known_map : (v : ClassExpr → Finding) (ts : List ClassExpr) (i : ℕ) (t : ClassExpr) → slice_get ts i ≡ Some t → known_at (map v ts) i ≡ v t
@@ -309,7 +323,7 @@ same_lists [] (y ∷ ys) l h = absurd (omega (arith, l))
 same_lists (x ∷ xs) [] l h = absurd (omega (arith, l))
 same_lists (x ∷ xs) (y ∷ ys) l h = let first : x ≡ y = h 0 (omega arith) in let rest = same_lists xs ys (omega (arith, l)) (λ i w. h (suc i) (omega (arith, w))) in λ i. first i ∷ rest i
 
-long_map : (v : ClassExpr → Finding) (ts : List ClassExpr) → length (map v ts) ≡ length ts
+pub long_map : (v : ClassExpr → Finding) (ts : List ClassExpr) → length (map v ts) ≡ length ts
 long_map v [] = refl
 long_map v (t ∷ ts) = ap suc (long_map v ts)
 
