@@ -1,5 +1,5 @@
 -- What a row gives depends on the parts alone, and falls with them.
-use Rattle.std.proofs.Common.{◌≡◌, ℕ, ◌<◌, ◌≤◌, ◌⊎◌, Bool, true, false, List, [], ◌∷◌, Some, zero, suc, inl, inr, cond, map, slice_get, refl, sym, ap, subst, ◌∙◌, arith, true≢false}
+use Rattle.std.proofs.Common.{◌≡◌, ℕ, ◌<◌, Bool, true, false, List, [], ◌∷◌, Some, suc, cond, map, slice_get, refl, sym, true≢false}
 use Rattle.std.specs.List.{list_all, list_any}
 use Rattle.fact_rows.specs.Member.{In, here, there}
 use Rattle.fact_rows.proofs.Members.{in_none}

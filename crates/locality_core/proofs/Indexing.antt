@@ -1,5 +1,5 @@
 -- The index of a pool, node by node.
-use Rattle.std.proofs.Common.{◌≡◌, ℕ, zero, suc, ◌+◌, ◌<◌, ◌≤◌, ◌⊎◌, Bool, true, List, [], ◌∷◌, ◌++◌, Option, None, Some, inl, inr, get_or, length, map, nat_lt, replicate, slice_get, take, refl, sym, ap, subst, ◌∙◌, add-one, arith}
+use Rattle.std.proofs.Common.{◌≡◌, ℕ, zero, suc, ◌+◌, ◌<◌, ◌≤◌, ◌⊎◌, Bool, true, List, [], ◌∷◌, ◌++◌, Option, None, Some, inl, inr, get_or, length, nat_lt, replicate, slice_get, take, refl, sym, ap, subst, ◌∙◌, add-one, arith}
 use Rattle.std.specs.List.{list_all}
 use Rattle.std.proofs.lemmas.Bool.{cases_lt}
 use Rattle.std.proofs.lemmas.Option.{slice_get-get_or}
@@ -7,7 +7,7 @@ use Rattle.fact_rows.specs.Member.{In, here, there}
 use Rattle.fact_rows.proofs.Members.{in_cons, in_none, in_parts}
 use Rattle.name_lists.proofs.ListLemmas.{in_from, in_kept, in_with, long_with}
 use Rattle.name_lists.proofs.NamedLemmas.{added_from, added_has, added_keeps}
-use Rattle.name_lists.specs.Lists.{HasNumber, HaveLists, NamedState, list_with, place_of}
+use Rattle.name_lists.specs.Lists.{HasNumber, NamedState, list_with}
 use Rattle.expr_pool.proofs.Lists.{both, lt_from}
 use Rattle.expr_pool.proofs.PartLemmas.{in_map, parts_of_cell}
 use Rattle.expr_pool.specs.Part.{parts_of}
@@ -17,7 +17,6 @@ use Rattle.expr_pool.specs.declared.cell.Cell.TheVariants as cell
 use Rattle.expr_pool.specs.declared.cell.Node.{Node}
 use Rattle.owl_axioms.proofs.Adding.{take_suc}
 use Rattle.owl_axioms.specs.declared.expr.ClassExpr.{ClassExpr}
-use Rattle.owl_axioms.specs.declared.expr.ClassExpr.TheOpen.{ClassExpr-F}
 use Rattle.owl_axioms.specs.declared.name.Name.{Name}
 use Rattle.locality_core.proofs.Cells.{layer_of, out_of}
 use Rattle.locality_core.specs.Verdicts.{IsIndex, top_name, top_name_of}
@@ -148,16 +147,16 @@ module _ (ts : List ClassExpr) (different : AreDifferent ts) (to : ℕ) (within 
     parts = λ i j t p l h k is. elim (cases_lt i to) [
       | inl less ↦ a.kept j i (x.parts i j t p less h k is)
       | inr last ↦
-        let e : to ≡ i = omega (arith, l, last) in
-        let same : tree_of ts c ≡ t = some_is (sym at_is ∙ ap (slice_get ts) e ∙ h) in
-        subst (λ m. In m (get_or wholes' j [])) e (part_here j p k (subst (λ q. In p (parts_of q)) (sym same) is))
+          let e : to ≡ i = omega (arith, l, last) in
+          let same : tree_of ts c ≡ t = some_is (sym at_is ∙ ap (slice_get ts) e ∙ h) in
+          subst (λ m. In m (get_or wholes' j [])) e (part_here j p k (subst (λ q. In p (parts_of q)) (sym same) is))
     ];
     names = λ i t n l h is. elim (cases_lt i to) [
       | inl less ↦ used_keeps (cell_name c) uses uses' to u n i (x.names i t n less h is)
       | inr last ↦
-        let e : to ≡ i = omega (arith, l, last) in
-        let same : tree_of ts c ≡ t = some_is (sym at_is ∙ ap (slice_get ts) e ∙ h) in
-        subst (λ m. HasNumber uses' n m) e (used_has (cell_name c) uses uses' to n u (sym (tree_name ts c) ∙ ap top_name same ∙ is))
+          let e : to ≡ i = omega (arith, l, last) in
+          let same : tree_of ts c ≡ t = some_is (sym at_is ∙ ap (slice_get ts) e ∙ h) in
+          subst (λ m. HasNumber uses' n m) e (used_has (cell_name c) uses uses' to n u (sym (tree_name ts c) ∙ ap top_name same ∙ is))
     ];
     many = a.long ∙ x.many;
     above = λ j i h. elim (a.from j i h) [

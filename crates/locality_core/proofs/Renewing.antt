@@ -1,10 +1,10 @@
 -- A turn keeps what holds while nodes are renewed; where none is due, each node has the verdict of its tree.
-use Rattle.std.proofs.Common.{◌≡◌, ℕ, zero, suc, ◌+◌, ◌<◌, ◌≤◌, ◌⊎◌, ◌||◌, Bool, true, false, if◌then◌else◌, cond, List, [], ◌∷◌, ◌++◌, Option, None, Some, inl, inr, drop, get_or, length, map, nat_lt, slice_get, slice_set, refl, sym, ap, subst, ◌∙◌, arith, true≢false}
+use Rattle.std.proofs.Common.{◌≡◌, ℕ, zero, suc, ◌+◌, ◌<◌, ◌≤◌, ◌⊎◌, ◌||◌, Bool, true, false, if◌then◌else◌, List, [], ◌∷◌, ◌++◌, Option, None, Some, inl, inr, get_or, length, map, slice_get, slice_set, refl, sym, ap, subst, ◌∙◌, arith, true≢false}
 use Rattle.std.specs.List.{list_any}
 use Rattle.std.proofs.lemmas.Option.{get_or_from_slice_get, slice_get-get_or, slice_get_within}
-use Rattle.fact_rows.specs.Member.{In, here, there}
-use Rattle.fact_rows.proofs.Members.{any_in, by_bool, in_any, in_cons, in_left, in_none, in_parts, in_right}
-use Rattle.name_lists.proofs.NamedLemmas.{name_itself, names_tell}
+use Rattle.fact_rows.specs.Member.{In, here}
+use Rattle.fact_rows.proofs.Members.{any_in, by_bool, in_any, in_cons, in_left, in_none, in_right}
+use Rattle.name_lists.proofs.NamedLemmas.{names_tell}
 use Rattle.name_lists.specs.Lists.{HasNumber, NamedState, place_of, same_name}
 use Rattle.expr_pool.proofs.Lists.{map_get, some_is}
 use Rattle.expr_pool.specs.Laws.{PartsHaveNodes}
@@ -15,10 +15,8 @@ use Rattle.owl_axioms.specs.Names.{Scope}
 use Rattle.owl_axioms.specs.contracts.expr.ClassExprEq.TheImpl.Laws as expr_laws
 use Rattle.owl_axioms.specs.contracts.expr.ClassExprPartialEq.TheImpl as expr_eq
 use Rattle.owl_axioms.specs.declared.expr.ClassExpr.{ClassExpr, out-ClassExpr, size-ClassExpr}
-use Rattle.owl_axioms.specs.declared.expr.ClassExpr.TheOpen.{ClassExpr-F}
 use Rattle.owl_axioms.specs.declared.expr.ClassExpr.TheFolds.{map-ClassExpr}
 use Rattle.owl_axioms.specs.declared.expr.ClassExpr.TheVariants as expr
-use Rattle.owl_axioms.specs.declared.name.Kind.{Kind}
 use Rattle.owl_axioms.specs.declared.name.Name.{Name}
 use Rattle.owl_sem.specs.Laws.{Within}
 use Rattle.locality_tables.proofs.Monotone.{Stays, stays_self, stays_then}
@@ -29,8 +27,8 @@ use Rattle.locality_tables.specs.declared.finding.Finding.{Finding}
 use Rattle.locality_tables.specs.declared.finding.Finding.TheVariants.{Empty, Full, Unknown}
 use Rattle.locality_core.proofs.Falling.{layer_agree, part_smaller, step_same, step_stays, top_mapped}
 use Rattle.locality_core.proofs.Layers.{verdict_at}
-use Rattle.locality_core.specs.Verdicts.{IsIndex, IsWithName, StandFor, VerdictState, is_named, top_name, top_name_of}
-use Rattle.locality_core.specs.inner.Renewal.{AllBelow, IsDue, IsRenewing, IsTurn, LeadUp, Reads, is_unknown, known_at, known_count, next_at, place_in, reading}
+use Rattle.locality_core.specs.Verdicts.{IsWithName, is_named, top_name, top_name_of}
+use Rattle.locality_core.specs.inner.Renewal.{IsDue, IsRenewing, IsTurn, LeadUp, Reads, is_unknown, known_at, known_count, next_at, place_in, reading}
 
 abbrev same_expr : ClassExpr → ClassExpr → Bool
 same_expr = expr_eq.ghosts.eq

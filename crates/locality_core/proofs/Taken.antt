@@ -1,5 +1,5 @@
 -- The verdicts of the first nodes of a pool.
-use Rattle.std.proofs.Common.{◌≡◌, ℕ, zero, suc, ◌+◌, ◌<◌, ◌≤◌, List, [], ◌∷◌, ◌++◌, None, Some, get_or, length, map, slice_get, take, refl, sym, ap, subst, ◌∙◌, add-one, arith}
+use Rattle.std.proofs.Common.{◌≡◌, ℕ, zero, suc, ◌+◌, ◌<◌, ◌≤◌, List, [], ◌∷◌, ◌++◌, None, Some, length, map, slice_get, take, refl, ap, subst, ◌∙◌, add-one, arith}
 use Rattle.owl_axioms.specs.declared.expr.ClassExpr.{ClassExpr}
 use Rattle.locality_tables.specs.declared.finding.Finding.{Finding}
 use Rattle.locality_core.specs.inner.Renewal.{Reads}

@@ -1,5 +1,5 @@
 -- Turns, one by one: what they leave of what is known and what waits.
-use Rattle.std.proofs.Common.{◌≡◌, ℕ, zero, suc, ◌+◌, ◌<◌, ◌≤◌, ◌⊎◌, Bool, true, false, List, [], ◌∷◌, ◌++◌, inl, inr, drop, get_or, length, slice_set, refl, sym, ap, subst, ◌∙◌, arith}
+use Rattle.std.proofs.Common.{◌≡◌, ℕ, zero, suc, ◌+◌, ◌<◌, ◌≤◌, ◌⊎◌, Bool, true, false, List, [], ◌∷◌, ◌++◌, inl, inr, drop, get_or, length, refl, sym, ap, subst, ◌∙◌, arith}
 use Rattle.fact_rows.specs.Member.{In, here, there}
 use Rattle.fact_rows.proofs.Members.{in_cons, in_left, in_none, in_parts}
 use Rattle.name_lists.proofs.ListLemmas.{long_more}
@@ -13,7 +13,6 @@ use Rattle.locality_tables.specs.Verdict.{verdict_step}
 use Rattle.locality_tables.specs.declared.fills.ClassFill.{ClassFill}
 use Rattle.locality_tables.specs.declared.fills.RoleFill.{RoleFill}
 use Rattle.locality_tables.specs.declared.finding.Finding.{Finding}
-use Rattle.locality_tables.specs.declared.finding.Finding.TheVariants.{Unknown}
 use Rattle.locality_core.proofs.Renewing.{count_sunk, long_sunk, reads}
 use Rattle.locality_core.specs.inner.Renewal.{AllBelow, IsDue, IsRenewing, IsTurn, Reads, known_at, known_count, next_at, reading}
 

@@ -1,5 +1,5 @@
 -- What is known of each node of a pool, and the index by which it is renewed. (Own.)
-use Rattle.std.specs.Prelude.{ℕ, ◌≡◌, ◌<◌, ◌&&◌, ◌||◌, Bool, List, [], ◌∷◌, Option, None, Some, get_or, length, map, slice_get}
+use Rattle.std.specs.Prelude.{ℕ, ◌≡◌, ◌<◌, ◌&&◌, ◌||◌, List, [], Option, None, Some, get_or, length, map, slice_get}
 use Rattle.std.specs.Str.{bytes_eq}
 use Rattle.fact_rows.specs.Member.{In}
 use Rattle.name_lists.specs.Lists.{HasNumber, NamedState}

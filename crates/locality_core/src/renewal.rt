@@ -89,12 +89,7 @@ fn of_cell<L: Locality>(sig: &Sig, found: &[Finding], cell: &Cell) -> Finding
 }
 
 /// What the row of a node gives, by what is known of its parts.
-pub(crate) fn renewed<L: Locality>(
-    pool: &Pool,
-    sig: &Sig,
-    found: &[Finding],
-    node: Node,
-) -> Finding
+pub(crate) fn renewed<L: Locality>(pool: &Pool, sig: &Sig, found: &[Finding], node: Node) -> Finding
     requires inside { node.place < length pool.now }
     requires parts { node.place ≤ length found.now }
     ensures { (v : ClassExpr → Finding) → Reads pool.now found.now v → result ≡ verdict_step L.CLASSES L.ROLES (scope_of sig.now) (map-ClassExpr _ _ v (out-ClassExpr (tree_at pool.now node))) }

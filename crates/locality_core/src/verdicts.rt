@@ -77,17 +77,20 @@ impl<L: Locality> Verdicts<L> {
     {
         let _count = pool.len();
         parts_have_nodes(pool);
-        renew_users::<L>(pool, sig, &self.uses, name, &mut self.found, &mut self.waiting);
+        renew_users::<L>(
+            pool,
+            sig,
+            &self.uses,
+            name,
+            &mut self.found,
+            &mut self.waiting,
+        );
         renew_all::<L>(pool, sig, &self.wholes, &mut self.found, &mut self.waiting);
     }
 }
 
 /// The verdict of each node, in order.
-fn verdicts_of<L: Locality>(
-    alloc: Global,
-    pool: &Pool,
-    sig: &Sig,
-) -> Result<Vec<Finding>, NoMemory>
+fn verdicts_of<L: Locality>(alloc: Global, pool: &Pool, sig: &Sig) -> Result<Vec<Finding>, NoMemory>
     ensures { IfOk result (λ found. found.items ≡ map (verdict L.CLASSES L.ROLES (scope_of sig.now)) pool.now) }
 {
     let count = pool.len();

@@ -6,6 +6,7 @@
 mod growing;
 mod laws;
 mod logic;
+mod naming;
 mod ships;
 
 pub use growing::module;

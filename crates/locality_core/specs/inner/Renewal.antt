@@ -1,6 +1,6 @@
 -- How verdicts are renewed: what the rows give for a node by what is known of its parts, and what holds while some nodes
 -- wait. (Own.)
-use Rattle.std.specs.Prelude.{ℕ, zero, suc, ◌≡◌, ◌+◌, ◌<◌, ◌⊎◌, Bool, true, false, if◌then◌else◌, List, [], ◌∷◌, ◌++◌, Option, None, Some, get_or, length, map, slice_get, slice_set}
+use Rattle.std.specs.Prelude.{ℕ, suc, ◌≡◌, ◌+◌, ◌<◌, ◌⊎◌, Bool, true, false, if◌then◌else◌, List, [], ◌∷◌, ◌++◌, Option, None, Some, get_or, length, map, slice_get, slice_set}
 use Rattle.fact_rows.specs.Member.{In}
 use Rattle.name_lists.specs.Lists.{HasNumber, HaveLists, IsAdded, NamedState}
 use Rattle.expr_pool.specs.Part.{parts_of}

@@ -1,4 +1,4 @@
-use Rattle.std.proofs.Common.{◌<◌, ◌≡◌, Some, arith, ap, get_or, length, slice_get, subst, sym, ◌∙◌}
+use Rattle.std.proofs.Common.{◌<◌, arith, ap, get_or, length, ◌∙◌}
 use Rattle.std.proofs.lemmas.Option.{slice_get-get_or}
 use Rattle.expr_pool.specs.declared.cell.Node.{Node}
 use Rattle.locality_core.proofs.Indexing.{above_all, above_next, above_none, node_within}

@@ -1,4 +1,4 @@
-use Rattle.std.proofs.Common.{◌<◌, ◌≤◌, arith, length, subst, sym}
+use Rattle.std.proofs.Common.{◌≤◌, arith, length, subst, sym}
 use Rattle.expr_pool.proofs.PoolLemmas.{is_before_more}
 use Rattle.expr_pool.specs.Part.{AreBefore}
 use Rattle.locality_core.proofs.Indexing.{index_all, index_none, index_step}

@@ -1,4 +1,4 @@
-use Rattle.std.proofs.Common.{◌<◌, ◌≤◌, ◌+◌, [], sym, ap, subst, ◌∙◌, length, arith}
+use Rattle.std.proofs.Common.{◌<◌, sym, ap, subst, ◌∙◌, length, arith}
 use Rattle.owl_axioms.specs.Signature.{scope_of}
 use Rattle.name_lists.proofs.ListLemmas.{long_more}
 use Rattle.locality_core.proofs.Turns.{last_in, popped, rest_in}
@@ -24,7 +24,7 @@ waits-preserved g c =
     let found = c.waits.found.items in
     let rest = c.pop.new.self.items in
     let first : IsRenewing k r s ts wholes c.get.result.now found rest =
-        subst (λ ys. IsRenewing k r s ts wholes ys found rest) (sym c.get.ensures) (popped k r s ts wholes found c.waits.waiting.items rest c.in-Some.at c.in-Some.ensures.items c.waits.invariant.renewing) in
+    subst (λ ys. IsRenewing k r s ts wholes ys found rest) (sym c.get.ensures) (popped k r s ts wholes found c.waits.waiting.items rest c.in-Some.at c.in-Some.ensures.items c.waits.invariant.renewing) in
     record {
       renewing = c.renew_each.ensures.renewing wholes c.requires.up first;
       room =

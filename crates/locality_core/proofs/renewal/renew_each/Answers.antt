@@ -1,4 +1,4 @@
-use Rattle.std.proofs.Common.{◌<◌, ◌+◌, sym, ap, subst, ◌∙◌, drop, get_or, length, arith}
+use Rattle.std.proofs.Common.{◌<◌, ◌+◌, subst, ◌∙◌, drop, get_or, length}
 use Rattle.owl_axioms.specs.Signature.{scope_of}
 use Rattle.locality_core.proofs.Renewing.{one_turn}
 use Rattle.locality_core.proofs.Turns.{drop_all, drop_next, in_read, turn_long, turn_room, turn_within}

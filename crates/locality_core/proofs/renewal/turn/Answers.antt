@@ -1,4 +1,4 @@
-use Rattle.std.proofs.Common.{◌≡◌, ◌<◌, ◌+◌, false, not, sym, ap, ◌∙◌, inl, inr, length, refl, arith}
+use Rattle.std.proofs.Common.{◌≡◌, false, sym, ap, ◌∙◌, inl, inr, refl, arith}
 use Rattle.owl_axioms.specs.Signature.{scope_of}
 use Rattle.locality_core.proofs.Renewing.{count_sunk, unknown_is}
 use Rattle.locality_core.proofs.Turns.{row_is}

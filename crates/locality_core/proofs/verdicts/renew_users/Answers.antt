@@ -1,8 +1,6 @@
-use Rattle.std.proofs.Common.{◌≡◌, ◌≤◌, ◌+◌, ℕ, List, [], None, Some, arith, ap, get_or, length, map, slice_get, subst, sym, ◌∙◌}
+use Rattle.std.proofs.Common.{[], arith, ap, length, subst, sym, ◌∙◌}
 use Rattle.fact_rows.specs.Member.{In}
 use Rattle.owl_axioms.specs.Signature.{scope_of}
-use Rattle.owl_axioms.specs.declared.expr.ClassExpr.{ClassExpr}
-use Rattle.name_lists.specs.Lists.{HasNumber, place_of}
 use Rattle.locality_tables.specs.Verdict.{verdict}
 use Rattle.locality_core.proofs.Renewing.{known_most, long_map, no_users, some_users, starts_with}
 use Rattle.locality_core.specs.inner.Renewal.{IsRenewing}

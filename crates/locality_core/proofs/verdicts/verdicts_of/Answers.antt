@@ -1,4 +1,4 @@
-use Rattle.std.proofs.Common.{◌≡◌, ◌<◌, ◌++◌, [], ◌∷◌, Some, refl, arith, length, slice_get, subst, sym, ap, ◌∙◌, map}
+use Rattle.std.proofs.Common.{◌≡◌, ◌<◌, ◌++◌, [], ◌∷◌, Some, refl, arith, length, slice_get, sym, ap, ◌∙◌, map}
 use Rattle.std.proofs.lemmas.Option.{slice_get-get_or}
 use Rattle.owl_axioms.specs.Signature.{scope_of}
 use Rattle.owl_axioms.specs.declared.expr.ClassExpr.{out-ClassExpr}

@@ -1,4 +1,4 @@
-use Rattle.std.proofs.Common.{map, length, refl, sym, ap, ◌∙◌}
+use Rattle.std.proofs.Common.{map, length, sym, ap, ◌∙◌}
 use Rattle.expr_pool.specs.Pool.{tree_at}
 use Rattle.locality_core.proofs.Cells.{all_before, at_all, at_and, at_class, at_exact, at_max, at_min, at_not, at_nothing, at_or, at_some, at_thing, exact_before, max_before, min_before, not_before, some_before}
 use Rattle.locality_core.proofs.Operands.{length_map}
