@@ -1,7 +1,7 @@
 pub mod Counting
 pub mod Extending
 pub mod Flags
-pub mod Naming
+pub mod Pushed
 pub mod Shipping
 pub mod Starting
 pub mod Told

@@ -18,7 +18,7 @@ pub(crate) fn names_in_body(alloc: Global, body: &Body) -> Result<Vec<Name>, NoM
 }
 
 /// Puts the names in what an axiom says behind others.
-#[tactic(auto, using(crate::proofs::Naming::pushed_append), unfolding(owl_axioms::specs::Names::body_names, crate::specs::inner::Naming::pushed))]
+#[tactic(auto, using(crate::proofs::Pushed::pushed_append), unfolding(owl_axioms::specs::Names::body_names, crate::specs::inner::Naming::pushed))]
 fn push_body(alloc: Global, names: &mut Vec<Name>, body: &Body) -> Result<(), NoMemory>
     ensures { OnOk result (names.new.items ≡ pushed names.old.items (body_names body.now)) }
 {

@@ -6,7 +6,7 @@ use Rattle.owl_axioms.specs.Names.{names_in, names_step}
 use Rattle.owl_axioms.specs.Names.{name_of}
 use Rattle.module_extract.specs.inner.Naming.{names_list, pushed}
 use Rattle.owl_axioms.proofs.Adding.{flat_of_map, get_from_read}
-use Rattle.module_extract.proofs.Naming.{pushed_layer, pushed_next}
+use Rattle.module_extract.proofs.Pushed.{pushed_layer, pushed_next}
 use Rattle.module_extract.proofs.naming.+naming.Goals as goal
 
 pub push_expr-returns-in-Thing : goal.push_expr-returns-in-Thing

@@ -1,6 +1,6 @@
 use Rattle.std.proofs.Common.{◌≡◌, [], sym, ap, ◌∙◌}
 use Rattle.owl_axioms.specs.Names.{body_names}
-use Rattle.module_extract.proofs.Naming.{pushed_is}
+use Rattle.module_extract.proofs.Pushed.{pushed_is}
 use Rattle.module_extract.specs.inner.Naming.{pushed}
 use Rattle.module_extract.proofs.naming.names_in_body.Goals as goal
 

@@ -1,5 +1,5 @@
 use Rattle.std.proofs.Common.{◌≡◌, OnOk, sym, subst, ◌∙◌}
-use Rattle.module_extract.proofs.Naming.{pushed_signed, pushed_unsigned}
+use Rattle.module_extract.proofs.Pushed.{pushed_signed, pushed_unsigned}
 use Rattle.module_extract.proofs.naming.push_subject.Goals as goal
 
 pub returns-then-is_signed : goal.returns-then-is_signed
