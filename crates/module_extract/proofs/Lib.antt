@@ -4,5 +4,7 @@ pub mod Flags
 pub mod Pushed
 pub mod Shipping
 pub mod Starting
+pub mod Telling
 pub mod Told
 pub mod Turns
+pub mod Weights
