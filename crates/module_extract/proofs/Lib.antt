@@ -1,6 +1,8 @@
 pub mod Counting
 pub mod Extending
 pub mod Flags
+pub mod Fronts
+pub mod States
 pub mod Pushed
 pub mod Shipping
 pub mod Starting

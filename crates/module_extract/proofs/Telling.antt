@@ -74,7 +74,7 @@ old_name s n h m = by (scope_of s n.kind n.iri) (sym (ap (λ b. b && not (scope_
 pub told_none : (old : NamedState) (at : ℕ) (seen : SigState) → seen ≡ no_names → IsTold old [] at seen old
 unfolding added
 told_none old at seen is = record {
-  seen = is;
+  seen_are = is;
   has = λ n h. absurd (true≢false (sym h ∙ ap (λ s. scope_of s n.kind n.iri) is ∙ nothing n.kind n.iri));
   kept = λ n i h. h;
   from = λ s i h. inl h;
@@ -94,7 +94,7 @@ added_more s (m ∷ ns) n = added_more (add_name s m.kind m.iri) ns n
 
 module _ (old : NamedState) (ns : List Name) (at : ℕ) (seen : SigState) (mid : NamedState) (t : IsTold old ns at seen mid) (name : Name) (seen' : SigState) (new : NamedState) where
   names_seen : seen' ≡ add_name seen name.kind name.iri → seen' ≡ added no_names (ns ++ name ∷ [])
-  names_seen is = is ∙ ap (λ s. add_name s name.kind name.iri) t.seen ∙ sym (added_more no_names ns name)
+  names_seen is = is ∙ ap (λ s. add_name s name.kind name.iri) t.seen_are ∙ sym (added_more no_names ns name)
 
   in_scope : seen' ≡ add_name seen name.kind name.iri → (n : Name) → scope_of seen' n.kind n.iri ≡ true → (scope_of seen n.kind n.iri || (has_meaning n.kind && same_name name n)) ≡ true
   in_scope is n h = sym (ap (λ s. scope_of s n.kind n.iri) is ∙ scope_one seen name n.kind n.iri) ∙ h
@@ -104,7 +104,7 @@ module _ (old : NamedState) (ns : List Name) (at : ℕ) (seen : SigState) (mid :
 
   told_more : IsToldOne mid seen name at seen' new → IsTold old (ns ++ name ∷ []) at seen' new
   told_more (is, inl (fresh, have, a)) = record {
-    seen = names_seen is;
+    seen_are = names_seen is;
     has = λ n h. either_true (scope_of seen n.kind n.iri) (has_meaning n.kind) (same_name name n) (in_scope is n h)
         (λ k. added_keeps mid have name at new a n at (t.has n k))
         (λ m k. subst (λ q. HasNumber new q at) (names_tell name n k) (added_has mid have name at new a));
@@ -116,7 +116,7 @@ module _ (old : NamedState) (ns : List Name) (at : ℕ) (seen : SigState) (mid :
     count = let a1 = added_counts mid have name at new a in let b1 = t.count in let c1 = counted is ∙ ap (λ b. name_count seen + (if b then 1 else 0)) fresh in omega (arith, a1, b1, c1);
   }
   told_more (is, inr (known, same)) = subst (λ s. IsTold old (ns ++ name ∷ []) at seen' s) (sym same) (record {
-    seen = names_seen is;
+    seen_are = names_seen is;
     has = λ n h. either_true (scope_of seen n.kind n.iri) (has_meaning n.kind) (same_name name n) (in_scope is n h)
         (λ k. t.has n k)
         (λ m k. let e : name ≡ n = names_tell name n k in subst (λ q. HasNumber mid q at) e (t.has name (old_name seen name known (subst (λ q. has_meaning q.kind ≡ true) (sym e) m))));
@@ -139,7 +139,7 @@ take_all (x ∷ xs) (suc k) h = ap (λ ys. x ∷ ys) (take_all xs k (omega (arit
 pub told_all : (old : NamedState) (ns ms : List Name) (k at : ℕ) (seen : SigState) (new : NamedState) → length ns ≤ k → ns ≡ ms → IsTold old (take k ns) at seen new → IsTold old ms at (added no_names ms) new
 told_all old ns ms k at seen new l is t =
     let all : take k ns ≡ ms = take_all ns k l ∙ is in
-    subst (λ s. IsTold old ms at s new) (t.seen ∙ ap (added no_names) all) (subst (λ xs. IsTold old xs at seen new) all t)
+    subst (λ s. IsTold old ms at s new) (t.seen_are ∙ ap (added no_names) all) (subst (λ xs. IsTold old xs at seen new) all t)
 
 -- ---- the nodes of axioms stay while the pool grows
 

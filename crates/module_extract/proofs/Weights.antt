@@ -1,11 +1,10 @@
 -- Sums over the logical axioms of a part.
 use Rattle.std.proofs.Common.{◌≡◌, ℕ, zero, suc, ◌+◌, ◌≤◌, ◌&&◌, Bool, true, false, List, [], ◌∷◌, Some, filter, if◌then◌else◌, length, slice_get, take, refl, sym, ap, ◌∙◌, add-one, arith}
-use Rattle.std.specs.List.{sum_by}
 use Rattle.rel_io.proofs.Options.{none_there, same_there}
 use Rattle.owl_axioms.specs.declared.body.Axiom.{Axiom}
 use Rattle.owl_ontology.specs.Ontology.{flagged}
 use Rattle.owl_sem.specs.Models.{is_logical}
-use Rattle.module_extract.specs.Tests.{logical_part, names_number, test_bound}
+use Rattle.module_extract.specs.Tests.{logical_part, names_number, test_bound, total}
 use Rattle.module_extract.specs.inner.Setting.{once, weigh}
 
 weigh_suc : (m : Axiom → ℕ) (part : List Bool) (axioms : List Axiom) (i : ℕ) (f : Bool) (a : Axiom) → slice_get part i ≡ Some f → slice_get axioms i ≡ Some a
@@ -19,19 +18,19 @@ pub weigh_next : (m : Axiom → ℕ) (part : List Bool) (axioms : List Axiom) (i
     → weigh m (take (i + 1) part) (take (i + 1) axioms) ≡ weigh m (take i part) (take i axioms) + (if f && is_logical a.body then m a else 0)
 weigh_next m part axioms i f a h k = ap (λ n. weigh m (take n part) (take n axioms)) (add-one i) ∙ weigh_suc m part axioms i f a h k
 
-weigh_by : (m : Axiom → ℕ) (part : List Bool) (axioms : List Axiom) → sum_by m (logical_part axioms part) ≡ weigh m part axioms
+weigh_by : (m : Axiom → ℕ) (part : List Bool) (axioms : List Axiom) → total m (logical_part axioms part) ≡ weigh m part axioms
 weigh_by m [] axioms = refl
 weigh_by m (f ∷ part) [] = refl
 weigh_by m (true ∷ part) (a ∷ axioms) = by (is_logical a.body) (weigh_by m part axioms)
   where
-    by : (b : Bool) → sum_by m (logical_part axioms part) ≡ weigh m part axioms → sum_by m (if b then a ∷ logical_part axioms part else logical_part axioms part) ≡ (if b then m a else 0) + weigh m part axioms
-    by true e = ap (λ n. m a + n) e
-    by false e = e
-weigh_by m (false ∷ part) (a ∷ axioms) = weigh_by m part axioms
+    by : (b : Bool) → total m (logical_part axioms part) ≡ weigh m part axioms → total m (if b then a ∷ logical_part axioms part else logical_part axioms part) ≡ (if b then m a else 0) + weigh m part axioms
+    by true e = omega (arith, e)
+    by false e = omega (arith, e)
+weigh_by m (false ∷ part) (a ∷ axioms) = let e = weigh_by m part axioms in omega (arith, e)
 
-once_by : (xs : List Axiom) → length xs ≡ sum_by once xs
+once_by : (xs : List Axiom) → length xs ≡ total once xs
 once_by [] = refl
-once_by (x ∷ xs) = ap suc (once_by xs)
+once_by (x ∷ xs) = let e = once_by xs in omega (arith, e)
 
 pub bound_is : (axioms : List Axiom) (part : List Bool) → test_bound axioms part ≡ weigh once part axioms + weigh names_number part axioms
 bound_is axioms part = λ i. (once_by (logical_part axioms part) ∙ weigh_by once part axioms) i + weigh_by names_number part axioms i

@@ -57,7 +57,7 @@ pub record IsSetting (axioms : List Axiom) (part : List Bool) (trees : List Clas
 
 -- the place of an axiom is in the list of each of these names, once
 pub record IsTold (old : NamedState) (names : List Name) (at : ℕ) (seen : SigState) (new : NamedState) : Type 0 where
-  pub seen : seen ≡ added no_names names
+  pub seen_are : seen ≡ added no_names names
   pub has : (n : Name) → scope_of seen n.kind n.iri ≡ true → HasNumber new n at
   pub kept : (n : Name) (i : ℕ) → HasNumber old n i → HasNumber new n i
   pub from : (s i : ℕ) → In i (get_or new.lists s []) → In i (get_or old.lists s []) ⊎ (i ≡ at)
