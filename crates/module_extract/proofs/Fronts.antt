@@ -1,16 +1,16 @@
 -- Names enter the front of a module.
-use Rattle.std.proofs.Common.{◌≡◌, ℕ, zero, suc, ◌+◌, ◌<◌, ◌≤◌, ◌⊎◌, ◌&&◌, ◌||◌, Bool, true, false, not, cond, if◌then◌else◌, List, [], ◌∷◌, ◌++◌, Contains, None, Some, inl, inr, get_or, length, replicate, slice_get, slice_set, take, refl, sym, ap, subst, ◌∙◌, add-one, true≢false, length-set, arith}
+use Rattle.std.proofs.Common.{◌≡◌, ℕ, zero, suc, ◌+◌, ◌<◌, ◌≤◌, ◌&&◌, ◌||◌, Bool, true, false, not, cond, List, [], ◌∷◌, ◌++◌, Contains, None, Some, inl, inr, get_or, length, replicate, slice_get, slice_set, take, refl, sym, ap, subst, ◌∙◌, add-one, true≢false, length-set, arith}
 use Rattle.std.specs.Str.{bytes_eq}
-use Rattle.fact_rows.specs.Member.{In, here, there}
+use Rattle.fact_rows.specs.Member.{In, here}
 use Rattle.fact_rows.proofs.Members.{by_bool, in_cons, in_left, in_none, in_parts, in_right}
 use Rattle.name_lists.proofs.ListLemmas.{long_more}
-use Rattle.name_lists.proofs.NamedLemmas.{name_itself, names_tell}
+use Rattle.name_lists.proofs.NamedLemmas.{name_itself}
 use Rattle.name_lists.specs.Lists.{HaveLists, NamedState, number_count, place_of, same_name}
 use Rattle.owl_axioms.proofs.Adding.{take_suc}
 use Rattle.owl_axioms.proofs.Listed.{append_in, by_place, in_listed, not_in_nothing, same_kind}
 use Rattle.owl_axioms.proofs.Signatures.{scope_added}
-use Rattle.owl_axioms.specs.Names.{Scope, has_meaning, listed}
-use Rattle.owl_axioms.specs.Signature.{SigState, add_name, added, has_text, scope_of, with_text}
+use Rattle.owl_axioms.specs.Names.{has_meaning, listed}
+use Rattle.owl_axioms.specs.Signature.{SigState, add_name, added, has_text, scope_of}
 use Rattle.owl_axioms.specs.contracts.name.KindPartialEq.TheImpl as kind_eq
 use Rattle.owl_axioms.specs.declared.expr.ClassExpr.{ClassExpr}
 use Rattle.owl_axioms.specs.declared.name.Kind.{Kind}
@@ -20,7 +20,7 @@ use Rattle.rel_io.proofs.Options.{none_there, same_there}
 use Rattle.locality_core.specs.Verdicts.{IsWithName, StandFor, VerdictState, is_named}
 use Rattle.module_extract.proofs.Telling.{either_true, scope_one}
 use Rattle.module_extract.specs.Module.{Fills, on_count}
-use Rattle.module_extract.specs.inner.Front.{Entered, FrontState, IsFront, fresh_sum, lists_left, tests_left, waiting_sum}
+use Rattle.module_extract.specs.inner.Front.{Entered, FrontState, IsFront, fresh_sum, waiting_sum}
 use Rattle.module_extract.specs.inner.Setting.{is_new}
 
 -- ---- flags and sums

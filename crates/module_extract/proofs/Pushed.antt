@@ -1,8 +1,8 @@
 -- Names put behind one another, by the layers of an expression.
-use Rattle.std.proofs.Common.{◌≡◌, ℕ, ◌+◌, ◌&&◌, Bool, true, false, not, List, [], ◌∷◌, ◌++◌, flat_map, map, refl, sym, ap, subst, ◌∙◌, take, slice_get, Some, add-one, true≢false}
+use Rattle.std.proofs.Common.{◌≡◌, ℕ, ◌+◌, true, false, List, [], ◌∷◌, ◌++◌, flat_map, refl, sym, ap, ◌∙◌, take, slice_get, Some, add-one}
 use Rattle.owl_axioms.proofs.Adding.{append_none, flat_append, take_suc}
 use Rattle.owl_axioms.proofs.Listed.{names_layer}
-use Rattle.owl_axioms.specs.Names.{has_meaning, is_signed, is_top_or_bottom, names_in, names_step, subject_names}
+use Rattle.owl_axioms.specs.Names.{is_signed, names_in, names_step, subject_names}
 use Rattle.owl_axioms.specs.declared.expr.ClassExpr.{ClassExpr}
 use Rattle.owl_axioms.specs.declared.expr.ClassExpr.TheOpen.{ClassExpr-F}
 use Rattle.owl_axioms.specs.declared.expr.ClassExpr.TheFolds.{map-ClassExpr}

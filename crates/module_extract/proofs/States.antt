@@ -1,19 +1,18 @@
 -- While a module grows: a test, a list that is taken, and the end.
-use Rattle.std.proofs.Common.{◌≡◌, ℕ, zero, suc, ◌+◌, ◌<◌, ◌≤◌, ◌⊎◌, ◌&&◌, ◌||◌, Bool, true, false, not, cond, if◌then◌else◌, List, [], ◌∷◌, ◌++◌, Contains, Some, inl, inr, drop, get_or, length, slice_get, slice_set, refl, sym, ap, subst, ◌∙◌, true≢false, arith}
+use Rattle.std.proofs.Common.{◌≡◌, ℕ, zero, suc, ◌+◌, ◌<◌, ◌≤◌, ◌⊎◌, ◌&&◌, ◌||◌, Bool, true, false, not, cond, List, [], ◌∷◌, ◌++◌, Contains, Some, inl, inr, drop, get_or, length, slice_get, slice_set, refl, sym, ap, subst, ◌∙◌, true≢false, arith}
 use Rattle.std.specs.List.{list_all}
 use Rattle.fact_rows.specs.Member.{In, here, there}
 use Rattle.fact_rows.proofs.Members.{by_bool, in_cons, in_left, in_none, in_parts, in_right}
 use Rattle.name_lists.proofs.ListLemmas.{long_more}
-use Rattle.name_lists.specs.Lists.{HasNumber, NamedState, place_of}
+use Rattle.name_lists.specs.Lists.{HasNumber, NamedState}
 use Rattle.owl_axioms.proofs.Listed.{here as first_in, in_listed, later as later_in}
 use Rattle.owl_axioms.proofs.Signatures.{scope_added}
 use Rattle.owl_axioms.specs.Names.{Scope, body_names, covers, has_meaning, listed}
-use Rattle.owl_axioms.specs.Signature.{SigState, added, scope_of}
+use Rattle.owl_axioms.specs.Signature.{scope_of}
 use Rattle.owl_axioms.specs.declared.body.Axiom.{Axiom}
 use Rattle.owl_axioms.specs.declared.body.Body.{Body}
 use Rattle.owl_axioms.specs.declared.body.Body.TheVariants as body
 use Rattle.owl_axioms.specs.declared.expr.ClassExpr.{ClassExpr}
-use Rattle.owl_axioms.specs.declared.name.Kind.{Kind}
 use Rattle.owl_axioms.specs.declared.name.Name.{Name}
 use Rattle.owl_sem.specs.Models.{is_logical}
 use Rattle.rel_io.proofs.Options.{none_there, same_there}
@@ -26,7 +25,7 @@ use Rattle.locality_tables.specs.declared.fills.RoleFill.{RoleFill}
 use Rattle.module_extract.proofs.Fronts.{sum_more}
 use Rattle.module_extract.proofs.Telling.{either_true}
 use Rattle.module_extract.proofs.Turns.{joins, same_test}
-use Rattle.module_extract.specs.Module.{Fills, IsModule, on_count, seed_and}
+use Rattle.module_extract.specs.Module.{Fills, IsModule}
 use Rattle.module_extract.specs.inner.Front.{Entered, FrontState, IsDue, IsFront, IsState, IsTested, lists_left, tests_left, waiting_sum}
 use Rattle.module_extract.specs.inner.Setting.{IsSetting, IsWork}
 use Rattle.module_extract.specs.inner.Work.{IsGrowing, tests_local}

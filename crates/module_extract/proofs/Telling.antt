@@ -1,12 +1,12 @@
 -- The places of axioms in the lists of their names.
-use Rattle.std.proofs.Common.{◌≡◌, ℕ, zero, suc, ◌+◌, ◌<◌, ◌≤◌, ◌⊎◌, ◌&&◌, ◌||◌, Bool, true, false, not, cond, if◌then◌else◌, List, [], ◌∷◌, ◌++◌, Contains, None, Some, inl, inr, get_or, length, slice_get, take, refl, sym, ap, subst, ◌∙◌, add-one, true≢false, arith}
+use Rattle.std.proofs.Common.{◌≡◌, ℕ, zero, suc, ◌+◌, ◌<◌, ◌≤◌, ◌⊎◌, ◌&&◌, ◌||◌, Bool, true, false, not, cond, if◌then◌else◌, List, [], ◌∷◌, ◌++◌, Contains, Some, inl, inr, get_or, length, slice_get, take, refl, sym, ap, subst, ◌∙◌, add-one, true≢false, arith}
 use Rattle.std.proofs.lemmas.Bool.{cases_lt}
 use Rattle.std.specs.Str.{bytes_eq}
-use Rattle.fact_rows.specs.Member.{In, here, there}
-use Rattle.fact_rows.proofs.Members.{by_bool, in_cons, in_left, in_none, in_parts, in_right}
+use Rattle.fact_rows.specs.Member.{In, here}
+use Rattle.fact_rows.proofs.Members.{in_cons, in_left, in_none, in_parts, in_right}
 use Rattle.name_lists.proofs.ListLemmas.{long_more}
 use Rattle.name_lists.proofs.NamedLemmas.{added_counts, added_from, added_has, added_keeps, names_tell}
-use Rattle.name_lists.specs.Lists.{HasNumber, HaveLists, IsAdded, NamedState, number_count, place_of, same_name}
+use Rattle.name_lists.specs.Lists.{HasNumber, NamedState, number_count, same_name}
 use Rattle.expr_pool.proofs.Lists.{get_grown}
 use Rattle.expr_pool.specs.Pool.{Grew}
 use Rattle.expr_pool.specs.declared.cell.Node.{Node}
@@ -160,6 +160,11 @@ plain_more ts us g b plain.Other h = h
 
 -- ---- one axiom more
 
+pub within_all : (axioms : List Axiom) (i : ℕ) (a : Axiom) → slice_get axioms i ≡ Some a → i < length axioms
+within_all [] i a h = absurd (none_there h)
+within_all (x ∷ axioms) zero a h = omega arith
+within_all (x ∷ axioms) (suc i) a h = let l = within_all axioms i a h in omega (arith, l)
+
 pub setting_none : (axioms : List Axiom) (part : List Bool) (trees : List ClassExpr) (plains : List Plain) (table : NamedState) (all : List ℕ) → plains ≡ [] → table.lists ≡ [] → all ≡ [] → IsSettingTo axioms part 0 trees plains table all
 setting_none axioms part trees plains table all p t l = record {
   plain = λ i a w. absurd (omega (arith, w));
@@ -167,6 +172,7 @@ setting_none axioms part trees plains table all p t l = record {
   works = λ s i h. in_none (subst (λ ls. In i (get_or ls s [])) t h);
   listed = λ i w. absurd (omega (arith, w));
   listed_works = λ i h. in_none (subst (λ xs. In i xs) l h);
+  within = omega arith;
   many = ap length p;
   axioms_count = ap length l;
   names_count = ap number_count t;
@@ -211,6 +217,7 @@ module _ (axioms : List Axiom) (part : List Bool) (to : ℕ) (a : Axiom) (f : Bo
       | inr more ↦ absurd (no_work h i (last i l more) w)
     ];
     listed_works = s.listed_works;
+    within = let l = within_all axioms to a at_is in omega (arith, l);
     many = long_more plains plain.Other ∙ ap (λ n. n + 1) s.many;
     axioms_count = let e = weigh_next once part axioms to f a part_is at_is ∙ ap (λ b. weigh once (take to part) (take to axioms) + (if b then 1 else 0)) h in let d = s.axioms_count in omega (arith, d, e);
     names_count = let e = weigh_next names_number part axioms to f a part_is at_is ∙ ap (λ b. weigh names_number (take to part) (take to axioms) + (if b then names_number a else 0)) h in let d = s.names_count in omega (arith, d, e);
@@ -268,6 +275,7 @@ module _ (axioms : List Axiom) (part : List Bool) (to : ℕ) (a : Axiom) (f : Bo
           | inr z ↦ in_none z
         ]
       ];
+      within = let l = within_all axioms to a at_is in omega (arith, l);
       many = long_more plains p ∙ ap (λ n. n + 1) s.many;
       axioms_count = let e = weigh_next once part axioms to f a part_is at_is ∙ ap (λ b. weigh once (take to part) (take to axioms) + (if b then 1 else 0)) is_of in let d = s.axioms_count in let c = long_more all to in omega (arith, d, e, c);
       names_count = let e = weigh_next names_number part axioms to f a part_is at_is ∙ ap (λ b. weigh names_number (take to part) (take to axioms) + (if b then names_number a else 0)) is_of in let d = s.names_count in let c = t.count in omega (arith, d, e, c);
@@ -284,22 +292,18 @@ setting_next axioms part to a f false at_is part_is is trees plains table all s 
     (subst (λ x. IsSettingTo axioms part (to + 1) trees (plains ++ plain.Other ∷ []) x all') (sym table_is) (subst (λ xs. IsSettingTo axioms part (to + 1) trees (plains ++ plain.Other ∷ []) table xs) (sym all_is)
     (skipped axioms part to a f at_is part_is trees plains table all s (sym is)))))
 
-within_all : (axioms : List Axiom) (i : ℕ) (a : Axiom) → slice_get axioms i ≡ Some a → i < length axioms
-within_all [] i a h = absurd (none_there h)
-within_all (x ∷ axioms) zero a h = omega arith
-within_all (x ∷ axioms) (suc i) a h = let l = within_all axioms i a h in omega (arith, l)
-
-pub setting_all : (axioms : List Axiom) (part : List Bool) (trees : List ClassExpr) (plains : List Plain) (table : NamedState) (all : List ℕ) (to : ℕ) → to ≡ length axioms → to ≡ length part → IsSettingTo axioms part to trees plains table all → IsSetting axioms part trees plains table all
+pub setting_all : (axioms : List Axiom) (part : List Bool) (trees : List ClassExpr) (plains : List Plain) (table : NamedState) (all : List ℕ) (to : ℕ) → length axioms ≤ to → length part ≤ to → IsSettingTo axioms part to trees plains table all → IsSetting axioms part trees plains table all
 setting_all axioms part trees plains table all to l m s =
-    let a_is = take_all axioms to (omega (arith, l)) in
-    let p_is = take_all part to (omega (arith, m)) in
+    let a_is = take_all axioms to l in
+    let p_is = take_all part to m in
+    let e : to ≡ length axioms = let w = s.within in omega (arith, l, w) in
     record {
       plain = λ i a is w. let n = within_all axioms i a is in s.plain i a (omega (arith, n, l)) is w;
       told = λ i a n is w. let k = within_all axioms i a is in s.told i a n (omega (arith, k, l)) is w;
       works = s.works;
       listed = λ i w. let n = within_all axioms i w.0 w.1 in s.listed i (omega (arith, n, l)) w;
       listed_works = s.listed_works;
-      many = s.many ∙ l;
+      many = s.many ∙ e;
       axioms_count = s.axioms_count ∙ (λ i. weigh once (p_is i) (a_is i));
       names_count = s.names_count ∙ (λ i. weigh names_number (p_is i) (a_is i));
     }

@@ -1,8 +1,7 @@
 -- Sums over the logical axioms of a part.
-use Rattle.std.proofs.Common.{◌≡◌, ℕ, zero, suc, ◌+◌, ◌≤◌, ◌&&◌, Bool, true, false, List, [], ◌∷◌, Some, filter, if◌then◌else◌, length, slice_get, take, refl, sym, ap, ◌∙◌, add-one, arith}
+use Rattle.std.proofs.Common.{◌≡◌, ℕ, zero, suc, ◌+◌, ◌&&◌, Bool, true, false, List, [], ◌∷◌, Some, if◌then◌else◌, length, slice_get, take, refl, ap, ◌∙◌, add-one, arith}
 use Rattle.rel_io.proofs.Options.{none_there, same_there}
 use Rattle.owl_axioms.specs.declared.body.Axiom.{Axiom}
-use Rattle.owl_ontology.specs.Ontology.{flagged}
 use Rattle.owl_sem.specs.Models.{is_logical}
 use Rattle.module_extract.specs.Tests.{logical_part, names_number, test_bound, total}
 use Rattle.module_extract.specs.inner.Setting.{once, weigh}

@@ -1,5 +1,5 @@
 //! `Front`: the names of a module that grows, what is known for them, and whose axioms are to be tested again.
-ghost use Rattle.std.specs.Prelude.{◌≡◌, ◌+◌, ◌++◌, [], ◌∷◌, true, IfOk, OnOk, length, replicate};
+ghost use Rattle.std.specs.Prelude.{◌≡◌, ◌+◌, ◌++◌, [], ◌∷◌, true, IfNone, IfOk, OnOk, length, replicate};
 ghost use Rattle.std.specs.Option.{option_to_list};
 ghost use Rattle.locality_core.specs.Plain.{IsPlainOf};
 ghost use Rattle.locality_tables.specs.Local.{is_local};
@@ -67,7 +67,14 @@ impl<L: Locality> Front<L> {
         ensures table { result ≡ is_local L.CLASSES L.ROLES (scope_of self.now.names) one.now.body }
         ensures ticks { steps.new ≡ steps.old + 1 }
     {
-        is_local_cached::<L, G>(&setting.pool, &self.names, &self.verdicts, one, plain, steps)
+        is_local_cached::<L, G>(
+            &setting.pool,
+            &self.names,
+            &self.verdicts,
+            one,
+            plain,
+            steps,
+        )
     }
 
     /// A name enters: what is known is renewed, and the name's axioms are to be tested again.
@@ -95,6 +102,7 @@ impl<L: Locality> Front<L> {
     pub(crate) fn pop(&mut self) -> Option<u64>
         ensures waiting { self.old.waiting ≡ self.new.waiting ++ option_to_list result }
         ensures rest { self.new ≡ record self.old { waiting = self.new.waiting } }
+        ensures end { IfNone result (self.old.waiting ≡ []) }
     {
         self.waiting.pop()
     }

@@ -39,9 +39,29 @@ pub fn module<L: Locality, G: Ledger>(
     let mut kept = vec![in alloc; false; ontology.len()]?;
     let setting = setting_of(alloc, ontology, part)?;
     let mut front = Front::<L>::new(alloc, &setting, sig)?;
-    test_each::<L, G>(alloc, &setting, ontology, part, sig, setting.all.as_slice(), &mut front, &mut kept, steps)?;
+    test_each::<L, G>(
+        alloc,
+        &setting,
+        ontology,
+        part,
+        sig,
+        setting.all.as_slice(),
+        &mut front,
+        &mut kept,
+        steps,
+    )?;
     'waits: while let Some(at) = front.pop() {
-        test_each::<L, G>(alloc, &setting, ontology, part, sig, setting.table.get(at as usize), &mut front, &mut kept, steps)?;
+        test_each::<L, G>(
+            alloc,
+            &setting,
+            ontology,
+            part,
+            sig,
+            setting.table.get(at as usize),
+            &mut front,
+            &mut kept,
+            steps,
+        )?;
     }
     Ok(kept)
 }

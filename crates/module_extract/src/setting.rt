@@ -31,12 +31,7 @@ pub(crate) struct Setting {
 }
 
 /// Adds the place of an axiom to the list of a name that is new to those seen.
-fn tell_one(
-    table: &mut NamedLists,
-    seen: &mut Sig,
-    name: &Name,
-    at: u64,
-) -> Result<(), NoMemory>
+fn tell_one(table: &mut NamedLists, seen: &mut Sig, name: &Name, at: u64) -> Result<(), NoMemory>
     ensures { OnOk result (IsToldOne table.old seen.old name.now at seen.new table.new) }
 {
     let is_new = seen.add(name)?;
@@ -107,7 +102,16 @@ pub(crate) fn setting_of(
     'axioms: for at in 0..ontology.len() {
         let one = ontology.get(at);
         let of = is_work(part, one, at);
-        add_axiom(alloc, one, of, at as u64, &mut pool, &mut plains, &mut table, &mut all)?;
+        add_axiom(
+            alloc,
+            one,
+            of,
+            at as u64,
+            &mut pool,
+            &mut plains,
+            &mut table,
+            &mut all,
+        )?;
     }
     Ok(Setting {
         pool,

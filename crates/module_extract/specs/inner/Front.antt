@@ -1,6 +1,6 @@
 -- The front of a module that grows: its names, what is known for them, and the names that entered and whose axioms are to be
 -- tested again. (Own.)
-use Rattle.std.specs.Prelude.{ℕ, ◌≡◌, ◌+◌, ◌<◌, ◌⊎◌, Bool, true, false, if◌then◌else◌, List, [], ◌∷◌, ◌++◌, Contains, Some, get_or, length, slice_get, slice_set}
+use Rattle.std.specs.Prelude.{ℕ, ◌≡◌, ◌+◌, ◌<◌, ◌⊎◌, Bool, true, false, if◌then◌else◌, List, [], ◌∷◌, Contains, Some, get_or, length, slice_get, slice_set}
 use Rattle.fact_rows.specs.Member.{In}
 use Rattle.name_lists.specs.Lists.{NamedState, place_of}
 use Rattle.owl_axioms.specs.Names.{Scope, body_names, has_meaning}
@@ -11,7 +11,6 @@ use Rattle.owl_axioms.specs.declared.name.Name.{Name}
 use Rattle.owl_sem.specs.Models.{is_logical}
 use Rattle.locality_core.specs.Verdicts.{StandFor, VerdictState}
 use Rattle.module_extract.specs.Module.{Fills, on_count}
-use Rattle.module_extract.specs.inner.Setting.{IsWork}
 use Rattle.module_extract.specs.inner.Work.{IsGrowing, tests_local}
 
 -- the names, what is known for them, of each list of axioms whether its name is still outside, and the lists whose axioms

@@ -1,6 +1,6 @@
 -- What a module is grown over: the logical axioms of the part, each with the nodes of its expressions, and of each name the
 -- axioms that mention it. (Own.)
-use Rattle.std.specs.Prelude.{ℕ, ◌≡◌, ◌+◌, ◌<◌, ◌&&◌, ◌⊎◌, Bool, true, false, not, if◌then◌else◌, List, [], ◌∷◌, ◌++◌, Contains, Some, get_or, length, slice_get, take}
+use Rattle.std.specs.Prelude.{ℕ, ◌≡◌, ◌+◌, ◌<◌, ◌≤◌, ◌&&◌, ◌⊎◌, Bool, true, false, not, if◌then◌else◌, List, [], ◌∷◌, ◌++◌, Contains, Some, get_or, length, slice_get, take}
 use Rattle.fact_rows.specs.Member.{In}
 use Rattle.name_lists.specs.Lists.{HasNumber, HaveLists, IsAdded, NamedState, number_count}
 use Rattle.expr_pool.specs.Pool.{Grew}
@@ -40,6 +40,7 @@ pub record IsSettingTo (axioms : List Axiom) (part : List Bool) (to : ℕ) (tree
   pub works : (s i : ℕ) → In i (get_or table.lists s []) → IsWork axioms part i
   pub listed : (i : ℕ) → i < to → IsWork axioms part i → In i all
   pub listed_works : (i : ℕ) → In i all → IsWork axioms part i
+  pub within : to ≤ length axioms
   pub many : length plains ≡ to
   pub axioms_count : length all ≡ weigh once (take to part) (take to axioms)
   pub names_count : number_count table.lists ≡ weigh names_number (take to part) (take to axioms)

@@ -1,4 +1,4 @@
-use Rattle.std.proofs.Common.{◌≡◌, [], sym, ap, ◌∙◌}
+use Rattle.std.proofs.Common.{[], ap, ◌∙◌}
 use Rattle.owl_axioms.specs.Names.{body_names}
 use Rattle.module_extract.proofs.Pushed.{pushed_is}
 use Rattle.module_extract.specs.inner.Naming.{pushed}

@@ -1,8 +1,8 @@
-use Rattle.std.proofs.Common.{[], ◌∷◌, ◌++◌, sym, subst, ◌∙◌, slice_set, false}
+use Rattle.std.proofs.Common.{[], ◌∷◌, sym, subst, ◌∙◌, slice_set, false}
 use Rattle.owl_axioms.specs.Signature.{scope_of}
 use Rattle.module_extract.specs.Module.{fills_of}
 use Rattle.module_extract.specs.inner.Front.{Entered, FrontState, IsFront}
-use Rattle.module_extract.proofs.Fronts.{known_entered, known_front, none_entered, none_front, some_entered, some_front, with_name}
+use Rattle.module_extract.proofs.Fronts.{known_entered, none_entered, none_front, some_entered, some_front, with_name}
 use Rattle.module_extract.proofs.front.Front.enter.Goals as goal
 
 pub returns-then-not-is_new-clause-entered : goal.returns-then-not-is_new-clause-entered
