@@ -1,8 +1,9 @@
 -- Sums over the logical axioms of a part.
-use Rattle.std.proofs.Common.{◌≡◌, ℕ, zero, suc, ◌+◌, ◌&&◌, Bool, true, false, List, [], ◌∷◌, Some, if◌then◌else◌, length, slice_get, take, refl, ap, ◌∙◌, add-one, arith}
+use Rattle.std.proofs.Common.{◌≡◌, ℕ, zero, suc, ◌+◌, ◌≤◌, ◌&&◌, Bool, true, false, List, [], ◌∷◌, Some, if◌then◌else◌, length, slice_get, take, refl, ap, ◌∙◌, add-one, arith}
 use Rattle.rel_io.proofs.Options.{none_there, same_there}
 use Rattle.owl_axioms.specs.declared.body.Axiom.{Axiom}
 use Rattle.owl_sem.specs.Models.{is_logical}
+use Rattle.module_extract.specs.Module.{IsPart}
 use Rattle.module_extract.specs.Tests.{logical_part, names_number, test_bound, total}
 use Rattle.module_extract.specs.inner.Setting.{once, weigh}
 
@@ -33,3 +34,23 @@ once_by (x ∷ xs) = let e = once_by xs in omega (arith, e)
 
 pub bound_is : (axioms : List Axiom) (part : List Bool) → test_bound axioms part ≡ weigh once part axioms + weigh names_number part axioms
 bound_is axioms part = λ i. (once_by (logical_part axioms part) ∙ weigh_by once part axioms) i + weigh_by names_number part axioms i
+
+-- a part of a part weighs no more
+weigh_less : (m : Axiom → ℕ) (less more' : List Bool) (axioms : List Axiom) → IsPart less more' → weigh m less axioms ≤ weigh m more' axioms
+weigh_less m [] more' axioms p = omega arith
+weigh_less m (f ∷ less) more' [] p = omega arith
+weigh_less m (true ∷ less) [] (a ∷ axioms) p = absurd (none_there (p 0 refl))
+weigh_less m (false ∷ less) [] (a ∷ axioms) p = let rest = weigh_less m less [] axioms (λ i h. p (suc i) h) in omega (arith, rest)
+weigh_less m (true ∷ less) (g ∷ more') (a ∷ axioms) p =
+    let rest = weigh_less m less more' axioms (λ i h. p (suc i) h) in
+    let e : (if g && is_logical a.body then m a else 0) ≡ (if true && is_logical a.body then m a else 0) = λ i. if same_there (p 0 refl) i && is_logical a.body then m a else 0 in
+    omega (arith, rest, e)
+weigh_less m (false ∷ less) (g ∷ more') (a ∷ axioms) p = let rest = weigh_less m less more' axioms (λ i h. p (suc i) h) in omega (arith, rest)
+
+pub bound_less : (axioms : List Axiom) (less more' : List Bool) → IsPart less more' → test_bound axioms less ≤ test_bound axioms more'
+bound_less axioms less more' p =
+    let a = bound_is axioms less in
+    let b = bound_is axioms more' in
+    let c = weigh_less once less more' axioms p in
+    let d = weigh_less names_number less more' axioms p in
+    omega (arith, a, b, c, d)
