@@ -3,3 +3,4 @@ mod extracts;
 mod pools;
 mod signatures;
 mod steps;
+mod verdicts;

@@ -107,16 +107,19 @@ outside_of s n h = by (has_meaning n.kind) (scope_of s n.kind n.iri) h
     by true false e = refl
     by false b e = absurd (true≢false (sym e))
 
-pub with_name : (s s' : SigState) (n : Name) → s' ≡ add_name s n.kind n.iri → is_new s n ≡ true → IsWithName (scope_of s) (scope_of s') n
-with_name s s' n is h k a = ap (λ t. scope_of t k a) is ∙ scope_one s n k a ∙ ap (λ b. scope_of s k a || b) (meant (kind_eq.ghosts.eq n.kind k) refl)
+pub with_meant : (s s' : SigState) (n : Name) → s' ≡ add_name s n.kind n.iri → has_meaning n.kind ≡ true → IsWithName (scope_of s) (scope_of s') n
+with_meant s s' n is m k a = ap (λ t. scope_of t k a) is ∙ scope_one s n k a ∙ ap (λ b. scope_of s k a || b) (meant (kind_eq.ghosts.eq n.kind k) refl)
   where
-    none : (m : Bool) → (m && false) ≡ false
+    none : (b : Bool) → (b && false) ≡ false
     none true = refl
     none false = refl
 
     meant : (b : Bool) → kind_eq.ghosts.eq n.kind k ≡ b → (has_meaning k && (kind_eq.ghosts.eq n.kind k && bytes_eq n.iri a)) ≡ is_named n k a
-    meant true e = ap (λ m. m && (kind_eq.ghosts.eq n.kind k && bytes_eq n.iri a)) (ap has_meaning (sym (same_kind n.kind k e)) ∙ meaning_of s n h)
+    meant true e = ap (λ b. b && (kind_eq.ghosts.eq n.kind k && bytes_eq n.iri a)) (ap has_meaning (sym (same_kind n.kind k e)) ∙ m)
     meant false e = ap (λ b. has_meaning k && (b && bytes_eq n.iri a)) e ∙ none (has_meaning k) ∙ sym (ap (λ b. b && bytes_eq n.iri a) e)
+
+pub with_name : (s s' : SigState) (n : Name) → s' ≡ add_name s n.kind n.iri → is_new s n ≡ true → IsWithName (scope_of s) (scope_of s') n
+with_name s s' n is h = with_meant s s' n is (meaning_of s n h)
 
 only_name : (name n : Name) → Contains (name ∷ []) n → name ≡ n
 only_name name n h = by_place name n [] h (λ e. e) (λ k. not_in_nothing n k)
