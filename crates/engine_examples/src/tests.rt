@@ -4,3 +4,4 @@ mod extracts;
 mod pools;
 mod signatures;
 mod steps;
+mod verdicts;

@@ -57,7 +57,7 @@ and_assoc : (x y z : Bool) → (x && (y && z)) ≡ ((x && y) && z)
 and_assoc true y z = refl
 and_assoc false y z = refl
 
-any_suc : (p : Finding → Bool) (v : ClassExpr → Finding) (cs : List ClassExpr) (i : ℕ) (d : ClassExpr) → slice_get cs i ≡ Some d → list_any p (map v (take (suc i) cs)) ≡ (list_any p (map v (take i cs)) || p (v d))
+any_suc : {A : Type 0} (p : Finding → Bool) (v : A → Finding) (cs : List A) (i : ℕ) (d : A) → slice_get cs i ≡ Some d → list_any p (map v (take (suc i) cs)) ≡ (list_any p (map v (take i cs)) || p (v d))
 any_suc p v [] i d h = cc
 any_suc p v (c ∷ cs) zero d h = let same : c ≡ d = cc in ap (λ x. p (v x) || false) same ∙ or_false (p (v d))
   where
@@ -66,7 +66,7 @@ any_suc p v (c ∷ cs) zero d h = let same : c ≡ d = cc in ap (λ x. p (v x) |
     or_false false = refl
 any_suc p v (c ∷ cs) (suc i) d h = ap (λ b. p (v c) || b) (any_suc p v cs i d h) ∙ or_assoc (p (v c)) _ _
 
-all_suc : (p : Finding → Bool) (v : ClassExpr → Finding) (cs : List ClassExpr) (i : ℕ) (d : ClassExpr) → slice_get cs i ≡ Some d → list_all p (map v (take (suc i) cs)) ≡ (list_all p (map v (take i cs)) && p (v d))
+all_suc : {A : Type 0} (p : Finding → Bool) (v : A → Finding) (cs : List A) (i : ℕ) (d : A) → slice_get cs i ≡ Some d → list_all p (map v (take (suc i) cs)) ≡ (list_all p (map v (take i cs)) && p (v d))
 all_suc p v [] i d h = cc
 all_suc p v (c ∷ cs) zero d h = let same : c ≡ d = cc in ap (λ x. p (v x) && true) same ∙ and_true (p (v d))
   where
@@ -75,8 +75,8 @@ all_suc p v (c ∷ cs) zero d h = let same : c ≡ d = cc in ap (λ x. p (v x) &
     and_true false = refl
 all_suc p v (c ∷ cs) (suc i) d h = ap (λ b. p (v c) && b) (all_suc p v cs i d h) ∙ and_assoc (p (v c)) _ _
 
-pub any_more : (p : Finding → Bool) (v : ClassExpr → Finding) (cs : List ClassExpr) (i : ℕ) (d : ClassExpr) → slice_get cs i ≡ Some d → list_any p (map v (take (i + 1) cs)) ≡ (list_any p (map v (take i cs)) || p (v d))
+pub any_more : {A : Type 0} (p : Finding → Bool) (v : A → Finding) (cs : List A) (i : ℕ) (d : A) → slice_get cs i ≡ Some d → list_any p (map v (take (i + 1) cs)) ≡ (list_any p (map v (take i cs)) || p (v d))
 any_more p v cs i d h = rw add-one (any_suc p v cs i d h)
 
-pub all_more : (p : Finding → Bool) (v : ClassExpr → Finding) (cs : List ClassExpr) (i : ℕ) (d : ClassExpr) → slice_get cs i ≡ Some d → list_all p (map v (take (i + 1) cs)) ≡ (list_all p (map v (take i cs)) && p (v d))
+pub all_more : {A : Type 0} (p : Finding → Bool) (v : A → Finding) (cs : List A) (i : ℕ) (d : A) → slice_get cs i ≡ Some d → list_all p (map v (take (i + 1) cs)) ≡ (list_all p (map v (take i cs)) && p (v d))
 all_more p v cs i d h = rw add-one (all_suc p v cs i d h)

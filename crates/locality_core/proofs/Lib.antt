@@ -1,2 +1,9 @@
+pub mod Cells
+pub mod Falling
+pub mod Indexing
+pub mod Known
 pub mod Layers
 pub mod Operands
+pub mod Renewing
+pub mod Taken
+pub mod Turns

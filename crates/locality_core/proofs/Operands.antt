@@ -17,6 +17,10 @@ get_from_read [] i d l h = absurd (omega arith)
 get_from_read (x ∷ xs) zero d l h = ap Some (sym h)
 get_from_read (x ∷ xs) (suc i) d l h = get_from_read xs i d (omega arith) h
 
+pub length_map : {X Y : Type 0} (f : X → Y) (xs : List X) → length (map f xs) ≡ length xs
+length_map f [] = refl
+length_map f (x ∷ xs) = ap suc (length_map f xs)
+
 take_whole : {X : Type 0} (xs : List X) (n : ℕ) → length xs ≤ n → take n xs ≡ xs
 take_whole [] zero h = refl
 take_whole [] (suc n) h = refl

@@ -25,7 +25,7 @@ pub fn is_local<L: Locality, G: Ledger>(sig: &Sig, axiom: &Axiom, steps: &mut St
 
 /// Whether what an axiom says is local, by the table.
 #[tactic(auto, unfolding(locality_tables::specs::Local::is_local, locality_tables::specs::Local::local_by))]
-fn is_local_body<L: Locality>(sig: &Sig, body: &Body) -> bool
+pub(crate) fn is_local_body<L: Locality>(sig: &Sig, body: &Body) -> bool
     ensures { result ≡ is_local L.CLASSES L.ROLES (scope_of sig.now) body.now }
 {
     match body {
@@ -65,21 +65,21 @@ fn found<L: Locality>(sig: &Sig, tree: &ClassExpr) -> Finding
 }
 
 /// A subclass axiom, by what is known of both classes.
-fn sub_local(c: Finding, d: Finding) -> bool
+pub(crate) fn sub_local(c: Finding, d: Finding) -> bool
     ensures { result ≡ (is_empty c || is_full d) }
 {
     c.is_empty() || d.is_full()
 }
 
 /// Equivalent classes.
-fn equiv_local(c: Finding, d: Finding) -> bool
+pub(crate) fn equiv_local(c: Finding, d: Finding) -> bool
     ensures { result ≡ ((is_empty c && is_empty d) || (is_full c && is_full d)) }
 {
     (c.is_empty() && d.is_empty()) || (c.is_full() && d.is_full())
 }
 
 /// Disjoint classes.
-fn disjoint_local(c: Finding, d: Finding) -> bool
+pub(crate) fn disjoint_local(c: Finding, d: Finding) -> bool
     ensures { result ≡ (is_empty c || is_empty d) }
 {
     c.is_empty() || d.is_empty()
@@ -131,7 +131,7 @@ fn has_no_more(r: RoleFinding) -> bool
 }
 
 /// A domain or a range.
-fn filled_local(r: RoleFinding, c: Finding) -> bool
+pub(crate) fn filled_local(r: RoleFinding, c: Finding) -> bool
     ensures { result ≡ (is_empty_role r || is_full c) }
 {
     r.is_empty() || c.is_full()

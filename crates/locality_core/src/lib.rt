@@ -5,14 +5,23 @@
 
 mod axioms;
 mod boxes;
+mod cached;
 mod forest;
+mod index;
 mod kinds;
+mod plain;
+mod pooled;
+mod renewal;
 mod rows;
 mod trees;
+mod verdicts;
 
 pub use axioms::is_local;
 pub use boxes::Boxes;
+pub use cached::is_local_cached;
 pub use forest::{Forest, Look};
 pub use kinds::Locality;
 pub use locality_tables::{ClassFill, Finding, RoleFill};
+pub use plain::{Plain, pool_axiom};
 pub use trees::verdict;
+pub use verdicts::Verdicts;

@@ -34,43 +34,43 @@ StaysRole Inside l = Unit {0}
 StaysRole (Filled r) l = l ≡ Filled r
 
 -- a test that is passed stays passed
-abbrev Keeps : Bool → Bool → Type 0
+abbrev pub Keeps : Bool → Bool → Type 0
 Keeps x y = x ≡ true → y ≡ true
 
-stays_empty : (c d : Finding) → Stays c d → Keeps (is_empty c) (is_empty d)
+pub stays_empty : (c d : Finding) → Stays c d → Keeps (is_empty c) (is_empty d)
 stays_empty Empty d s h = ap is_empty s
 stays_empty Full d s h = absurd (true≢false (sym h))
 stays_empty Unknown d s h = absurd (true≢false (sym h))
 
-stays_full : (c d : Finding) → Stays c d → Keeps (is_full c) (is_full d)
+pub stays_full : (c d : Finding) → Stays c d → Keeps (is_full c) (is_full d)
 stays_full Full d s h = ap is_full s
 stays_full Empty d s h = absurd (true≢false (sym h))
 stays_full Unknown d s h = absurd (true≢false (sym h))
 
-stays_exchanged : (c d : Finding) → Stays c d → Stays (exchanged c) (exchanged d)
+pub stays_exchanged : (c d : Finding) → Stays c d → Stays (exchanged c) (exchanged d)
 stays_exchanged Empty d s = ap exchanged s
 stays_exchanged Full d s = ap exchanged s
 stays_exchanged Unknown d s = tt
 
 -- ---- a function of a role and a finding
-abbrev OfBoth : (RoleFinding → Finding → Finding) → Type 0
+abbrev pub OfBoth : (RoleFinding → Finding → Finding) → Type 0
 OfBoth f = (k l : RoleFinding) (c d : Finding) → StaysRole k l → Stays c d → Stays (f k c) (f l d)
 
 -- enough: nothing is known of a role inside or an unknown finding that is not known of every other
-abbrev Steady : (RoleFinding → Finding → Finding) → Type 0
+abbrev pub Steady : (RoleFinding → Finding → Finding) → Type 0
 Steady f = ((l : RoleFinding) (c : Finding) → Stays (f Inside c) (f l c)) × ((k : RoleFinding) (d : Finding) → Stays (f k Unknown) (f k d))
 
-stays_then : (c d e : Finding) → Stays c d → Stays d e → Stays c e
+pub stays_then : (c d e : Finding) → Stays c d → Stays d e → Stays c e
 stays_then Empty d e s t = subst (λ x. Stays x e) s t
 stays_then Full d e s t = subst (λ x. Stays x e) s t
 stays_then Unknown d e s t = tt
 
-stays_self : (c : Finding) → Stays c c
+pub stays_self : (c : Finding) → Stays c c
 stays_self Empty = refl
 stays_self Full = refl
 stays_self Unknown = tt
 
-of_both : (f : RoleFinding → Finding → Finding) → Steady f → OfBoth f
+pub of_both : (f : RoleFinding → Finding → Finding) → Steady f → OfBoth f
 of_both f steady k l c d s t = stays_then (f k c) (f l c) (f l d) (one k s) (other c t)
   where
     one : (k : RoleFinding) → StaysRole k l → Stays (f k c) (f l c)
@@ -82,7 +82,7 @@ of_both f steady k l c d s t = stays_then (f k c) (f l c) (f l d) (one k s) (oth
     other Empty t = subst (λ x. Stays (f l Empty) (f l x)) (sym t) (stays_self (f l Empty))
     other Full t = subst (λ x. Stays (f l Full) (f l x)) (sym t) (stays_self (f l Full))
 
-some_steady : Steady some_finding
+pub some_steady : Steady some_finding
 some_steady = (inside, unknown)
   where
     inside : (l : RoleFinding) (c : Finding) → Stays (some_finding Inside c) (some_finding l c)
@@ -99,7 +99,7 @@ some_steady = (inside, unknown)
     unknown (Filled role.Full) d = tt
     unknown (Filled role.Identity) d = tt
 
-all_steady : Steady all_finding
+pub all_steady : Steady all_finding
 all_steady = (inside, unknown)
   where
     inside : (l : RoleFinding) (c : Finding) → Stays (all_finding Inside c) (all_finding l c)
@@ -154,44 +154,44 @@ stays_if : (t : Bool) (c c' d d' : Finding) → Stays c c' → Stays d d' → St
 stays_if true c c' d d' s t = s
 stays_if false c c' d d' s t = t
 
-min_both : (n : ℕ) → OfBoth (min_finding n)
+pub min_both : (n : ℕ) → OfBoth (min_finding n)
 min_both n k l c d s t = stays_if (n == 0) Full Full _ _ refl (stays_if (n == 1) _ _ _ _ (of_both some_finding some_steady k l c d s t) (of_both many_finding many_steady k l c d s t))
 
-max_both : (n : ℕ) → OfBoth (max_finding n)
+pub max_both : (n : ℕ) → OfBoth (max_finding n)
 max_both n k l c d s t = stays_if (n == 0) _ _ _ _ (stays_exchanged _ _ (of_both some_finding some_steady k l c d s t)) (stays_exchanged _ _ (of_both many_finding many_steady k l c d s t))
 
-exact_both : (n : ℕ) → OfBoth (exact_finding n)
+pub exact_both : (n : ℕ) → OfBoth (exact_finding n)
 exact_both n k l c d s t = stays_if (n == 0) _ _ _ _ (stays_exchanged _ _ (of_both some_finding some_steady k l c d s t))
     (stays_if (n == 1) _ _ _ _ (of_both one_finding one_steady k l c d s t) (of_both many_finding many_steady k l c d s t))
 
 -- ---- operands
-stays_tests : (X Y : Finding) (t u t' u' : Bool) → Keeps t t' → Keeps u u' → (u' ≡ true → t' ≡ false) → Stays (cond t X (cond u Y Unknown)) (cond t' X (cond u' Y Unknown))
+pub stays_tests : (X Y : Finding) (t u t' u' : Bool) → Keeps t t' → Keeps u u' → (u' ≡ true → t' ≡ false) → Stays (cond t X (cond u Y Unknown)) (cond t' X (cond u' Y Unknown))
 stays_tests X Y true u t' u' h k apart = subst (λ b. Stays X (cond b X (cond u' Y Unknown))) (sym (h refl)) (stays_self X)
 stays_tests X Y false true t' u' h k apart =
     let yes : u' ≡ true = k refl in
     subst (λ b. Stays Y (cond b X (cond u' Y Unknown))) (sym (apart yes)) (subst (λ b. Stays Y (cond b Y Unknown)) (sym yes) (stays_self Y))
 stays_tests X Y false false t' u' h k apart = tt
 
-keeps_or : (x y x' y' : Bool) → Keeps x x' → Keeps y y' → Keeps (x || y) (x' || y')
+pub keeps_or : (x y x' y' : Bool) → Keeps x x' → Keeps y y' → Keeps (x || y) (x' || y')
 keeps_or true y x' y' h k q = ap (λ b. b || y') (h refl)
 keeps_or false y true y' h k q = refl
 keeps_or false y false y' h k q = k q
 
-keeps_and : (x y x' y' : Bool) → Keeps x x' → Keeps y y' → Keeps (x && y) (x' && y')
+pub keeps_and : (x y x' y' : Bool) → Keeps x x' → Keeps y y' → Keeps (x && y) (x' && y')
 keeps_and x y x' y' h k q = let qs = both x y q in λ i. h qs.0 i && k qs.1 i
 
-full_not_empty : (c : Finding) → is_full c ≡ true → is_empty c ≡ false
+pub full_not_empty : (c : Finding) → is_full c ≡ true → is_empty c ≡ false
 full_not_empty Full h = refl
 full_not_empty Empty h = absurd (true≢false (sym h))
 full_not_empty Unknown h = refl
 
-empty_not_full : (c : Finding) → is_empty c ≡ true → is_full c ≡ false
+pub empty_not_full : (c : Finding) → is_empty c ≡ true → is_full c ≡ false
 empty_not_full Empty h = refl
 empty_not_full Full h = absurd (true≢false (sym h))
 empty_not_full Unknown h = refl
 
 -- where each passes the one test, none passes the other
-none_passes : (p q : Finding → Bool) → ((c : Finding) → q c ≡ true → p c ≡ false) → (cs : List Finding) → list_all q cs ≡ true → list_any p cs ≡ false
+pub none_passes : (p q : Finding → Bool) → ((c : Finding) → q c ≡ true → p c ≡ false) → (cs : List Finding) → list_all q cs ≡ true → list_any p cs ≡ false
 none_passes p q apart [] h = refl
 none_passes p q apart (c ∷ cs) h = let hs = both (q c) (list_all q cs) h in λ i. apart c hs.0 i || none_passes p q apart cs hs.1 i
 

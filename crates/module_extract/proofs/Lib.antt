@@ -1,7 +1,12 @@
 pub mod Counting
 pub mod Extending
 pub mod Flags
+pub mod Fronts
+pub mod States
+pub mod Pushed
 pub mod Shipping
 pub mod Starting
+pub mod Telling
 pub mod Told
 pub mod Turns
+pub mod Weights

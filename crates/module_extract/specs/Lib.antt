@@ -2,4 +2,5 @@ pub mod Laws
 pub mod Least
 pub mod Module
 pub mod Shipped
+pub mod Tests
 pub mod inner

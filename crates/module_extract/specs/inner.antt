@@ -1,1 +1,4 @@
+pub mod Front
+pub mod Naming
+pub mod Setting
 pub mod Work

@@ -3,9 +3,12 @@
 //! extends to one of the axioms that it was taken from.
 #![tactic(auto)]
 
+mod front;
 mod growing;
 mod laws;
 mod logic;
+mod naming;
+mod setting;
 mod ships;
 
 pub use growing::module;

@@ -1,3 +1,4 @@
 pub mod EndTold
 pub mod OneMore
 pub mod Rounds
+pub mod Ticks

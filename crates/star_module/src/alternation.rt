@@ -1,6 +1,7 @@
 //! Pairs of modules, until one drops nothing.
-ghost use Rattle.std.specs.Prelude.{◌≡◌, ◌≤◌, ◌+◌, if◌then◌else◌, IfOk, length};
-ghost use Rattle.module_extract.specs.Module.{logical_flags, on_count, seed_and};
+ghost use Rattle.std.specs.Prelude.{◌≡◌, ◌≤◌, ◌+◌, ◌*◌, if◌then◌else◌, IfOk, length};
+ghost use Rattle.module_extract.specs.Module.{IsPart, logical_flags, on_count, seed_and};
+ghost use Rattle.module_extract.specs.Tests.{test_bound};
 ghost use Rattle.owl_axioms.specs.Signature.{scope_of};
 ghost use Rattle.owl_ontology.specs.Ontology.{axioms_of, flagged};
 ghost use Rattle.owl_sem.specs.Models.{Keeps};
@@ -35,7 +36,8 @@ impl Dup for StarPart {
 }
 
 /// The alternation of bottom and top modules of the logical axioms until nothing is dropped. Each model of what is kept
-/// agrees over the signature and its names with a model of the logical axioms.
+/// agrees over the signature and its names with a model of the logical axioms. Each round tests each logical axiom twice
+/// at most, and again twice at most for each of its names.
 pub fn star<G: Ledger>(
     alloc: Global,
     ontology: &Ontology,
@@ -46,6 +48,8 @@ pub fn star<G: Ledger>(
     ensures few { IfOk result (λ s. s.rounds ≤ on_count (logical_flags (axioms_of ontology.now.entries)) + 1) }
     ensures keeps { IfOk result (λ s. Keeps (flagged (logical_flags (axioms_of ontology.now.entries)) (axioms_of ontology.now.entries)) (flagged s.kept (axioms_of ontology.now.entries))
         (seed_and (scope_of sig.now) (axioms_of ontology.now.entries) s.kept)) }
+    ensures ticks { IfOk result (λ s. steps.new ≤ steps.old + s.rounds * (2 * test_bound (axioms_of ontology.now.entries) (logical_flags (axioms_of ontology.now.entries)))) }
+    ensures most { steps.new ≤ steps.old + (on_count (logical_flags (axioms_of ontology.now.entries)) + 1) * (2 * test_bound (axioms_of ontology.now.entries) (logical_flags (axioms_of ontology.now.entries))) }
 {
     let mut part = logical(alloc, ontology)?;
     let mut rounds: u64 = 0;
@@ -71,7 +75,9 @@ fn star_round<G: Ledger>(
     steps: &mut Steps<G>,
 ) -> Result<Vec<bool>, NoMemory>
     requires { length part.now.items ≡ length ontology.now.entries }
-    ensures { IfOk result (λ next. IsRound bottom_and_top (axioms_of ontology.now.entries) (scope_of sig.now) part.now.items next.items) }
+    ensures round { IfOk result (λ next. IsRound bottom_and_top (axioms_of ontology.now.entries) (scope_of sig.now) part.now.items next.items) }
+    ensures part { IfOk result (λ next. IsPart next.items part.now.items) }
+    ensures ticks { steps.new ≤ steps.old + 2 * test_bound (axioms_of ontology.now.entries) part.now.items }
 {
     let bottom = module::<Bot, G>(alloc, ontology, part, sig, steps)?;
     module::<Top, G>(alloc, ontology, &bottom, sig, steps)

@@ -1,0 +1,12 @@
+use Rattle.std.proofs.Common.{◌≡◌, take, map}
+use Rattle.std.specs.List.{list_any, list_all}
+use Rattle.expr_pool.specs.declared.cell.Node.{Node}
+use Rattle.locality_tables.specs.Verdict.{is_empty, is_full}
+use Rattle.locality_core.specs.inner.Renewal.{known_at}
+use Rattle.locality_core.proofs.renewal.and_of.Given as goal
+
+abbrev pub invariant-operands : goal.invariant-operands
+invariant-operands l = record {
+  any : l.any_empty ≡ list_any is_empty (map (λ (n : Node). known_at l.found n.place) (take l.node-index l.nodes));
+  all : l.all_full ≡ list_all is_full (map (λ (n : Node). known_at l.found n.place) (take l.node-index l.nodes));
+}
