@@ -1,1 +1,2 @@
+pub mod BackNormal
 pub mod ReadsAgain
