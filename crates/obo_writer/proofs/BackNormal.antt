@@ -1,17 +1,18 @@
 -- The document of an ontology is in normal form but for default namespaces.
-use Rattle.std.proofs.Common.{◌≡◌, ℕ, Bool, true, false, not, ◌&&◌, ◌||◌, List, [], ◌++◌, codes, Option, None, inl, inr, ⊎_elim, refl, sym, ap, subst, ◌∙◌}
+use Rattle.std.proofs.Common.{map, ◌∷◌, ◌≡◌, ℕ, Bool, true, false, not, ◌&&◌, ◌||◌, List, [], ◌++◌, codes, Option, None, inl, inr, ⊎_elim, refl, sym, ap, subst, ◌∙◌}
 use Rattle.std.specs.List.{filter, filter_map, flat_map, list_any}
 use Rattle.std.specs.Option.{option_to_list}
 use Rattle.std.proofs.lemmas.Bool.{and_parts, both_ways, false_from_ne_true, not-true, or_cases}
 use Rattle.iri_map.proofs.CandidateLemmas.{bytes_eq-refl}
 use Rattle.text_sets.specs.Sets.{In, SameMembers}
 use Rattle.text_sets.specs.Sorted.{sorted_by}
-use Rattle.text_sets.proofs.SetLemmas.{In-append, In-append_left, In-from_filter, In-from_map, same_append, same_map, same_refl, same_trans}
+use Rattle.text_sets.proofs.SetLemmas.{In-append, In-append_left, In-from_filter, In-from_map, same_append, same_map, same_refl, same_sym, same_trans}
 use Rattle.owl_axioms.specs.declared.body.Axiom.{Axiom}
 use Rattle.owl_axioms.specs.declared.name.Kind.{Kind}
 use Rattle.owl_axioms.specs.declared.name.Kind.TheVariants as kinds
 use Rattle.owl_axioms.specs.declared.name.Name.{Name}
-use Rattle.obo_frames.specs.Framed.{Framed}
+use Rattle.obo_frames.specs.Framed.{Framed, unlined}
+use Rattle.obo_frames.specs.declared.placed.Placed.{Placed}
 use Rattle.obo_notes.specs.Context.{writing_in}
 use Rattle.obo_notes.specs.Forms.{first_part}
 use Rattle.obo_mapping.specs.Axioms.{same_kind}
@@ -162,3 +163,19 @@ same_back name some others same =
 pub spaced_back_is_normal : SpacedBackIsNormal
 spaced_back_is_normal name axioms is told lacking =
     same_trans (norm (back name axioms)) (back name (spaced [] [] axioms)) (back name axioms) (normal name axioms is told) (same_back name (spaced [] [] axioms) axioms (nothing_spaced axioms lacking))
+
+-- ---- what is written
+
+map_join : (f : Placed → Framed) (some others : List Placed) → map f (some ++ others) ≡ map f some ++ map f others
+map_join f [] others = refl
+map_join f (one ∷ some) others = ap (λ more. f one ∷ more) (map_join f some others)
+
+-- the document with the clauses of the missing namespaces is its normal form
+pub joined_normal : (name : Option (List ℕ)) (axioms : List Axiom) (placed more : List Placed) → IsSpellable name axioms → IsTold (writing_of name) axioms → map unlined placed ≡ back name axioms
+    → SameMembers (back name axioms ++ map unlined more) (back name (spaced [] [] axioms)) → SameMembers (map unlined (placed ++ more)) (norm (map unlined placed))
+joined_normal name axioms placed more is told same whole =
+    let n = back name (spaced [] [] axioms) in
+    subst (λ d. SameMembers (map unlined (placed ++ more)) (norm d)) (sym same)
+    (same_trans (map unlined (placed ++ more)) n (norm (back name axioms))
+    (subst (λ d. SameMembers d n) (sym (map_join unlined placed more ∙ ap (λ d. d ++ map unlined more) same)) whole)
+    (same_sym (norm (back name axioms)) n (normal name axioms is told)))

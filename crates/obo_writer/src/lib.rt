@@ -3,6 +3,7 @@
 #![tactic(auto)]
 
 mod laws;
+mod missing;
 mod text;
 
 pub use laws::{document_is_normal, spaced_document_is_normal, texts_read_back};
