@@ -1,8 +1,7 @@
 -- The document with the clauses of the missing namespaces is that of the axioms with the namespaces.
-use Rattle.std.proofs.Common.{◌≡◌, ◌<◌, ◌+◌, ℕ, Bool, not, ◌&&◌, ◌||◌, cond, List, [], ◌∷◌, ◌++◌, Option, None, Some, inl, inr, ⊎_elim, append-nil, get_or, length, take, refl, sym, ap, subst, unwrap_or, ◌∙◌}
+use Rattle.std.proofs.Common.{◌≡◌, ◌<◌, ◌+◌, ℕ, Bool, not, ◌||◌, cond, List, [], ◌∷◌, ◌++◌, Option, None, Some, inl, ⊎_elim, append-nil, get_or, length, take, refl, sym, ap, subst, unwrap_or, ◌∙◌}
 use Rattle.std.specs.List.{filter, filter_map, flat_map, list_any}
 use Rattle.std.specs.Option.{option_to_list}
-use Rattle.std.specs.Str.{bytes_eq}
 use Rattle.std.proofs.lemmas.Grind.{flat_map-append}
 use Rattle.std.proofs.lemmas.Option.{none-some}
 use Rattle.indexmap.specs.IndexSet.{IndexSet}
@@ -18,7 +17,7 @@ use Rattle.obo_notes.proofs.LoopLemmas.{next_taken}
 use Rattle.obo_mapping.specs.Back.{back, writing_of}
 use Rattle.obo_mapping.specs.Documents.{clauses_for, declared_in, default_in, header_with, is_namespace, same_name, spaced, spelled}
 use Rattle.obo_mapping.proofs.OfSet.{clauses-same}
-use Rattle.obo_mapping.proofs.SpacedLaws.{IsAdded, added, default_of, is_added, lacks}
+use Rattle.obo_mapping.proofs.SpacedLaws.{added, default_of, is_added, lacks}
 use Rattle.obo_to_owl.proofs.LeastLemmas.{least_of_both}
 use Rattle.obo_to_owl.proofs.SpacedLemmas.{name_same}
 use Rattle.obo_writer.specs.inner.Missing.{all_spaced, clauses_spaced, has_name, name_eq, names_without, spacing}

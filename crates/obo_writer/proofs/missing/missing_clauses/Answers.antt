@@ -1,7 +1,7 @@
 use Rattle.std.proofs.Common.{◌++◌, List, [], map, subst, sym, ◌∙◌}
 use Rattle.std.proofs.lemmas.Result.{IfOk-weaker}
 use Rattle.text_sets.specs.Sets.{SameMembers}
-use Rattle.obo_frames.specs.Framed.{Framed, unlined}
+use Rattle.obo_frames.specs.Framed.{unlined}
 use Rattle.obo_frames.specs.declared.placed.Placed.{Placed}
 use Rattle.owl_ontology.specs.Ontology.{axioms_of}
 use Rattle.obo_mapping.specs.Back.{back}

@@ -1,4 +1,4 @@
-use Rattle.std.proofs.Common.{◌++◌, ap, map, sym, ◌∙◌}
+use Rattle.std.proofs.Common.{◌++◌, ap, map, ◌∙◌}
 use Rattle.obo_frames.specs.Framed.{unlined}
 use Rattle.obo_text.specs.Text.{canonical_text}
 use Rattle.owl_ontology.specs.Ontology.{axioms_of}
