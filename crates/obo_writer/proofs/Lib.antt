@@ -1,1 +1,3 @@
+pub mod BackNormal
+pub mod MissingLemmas
 pub mod ReadsAgain

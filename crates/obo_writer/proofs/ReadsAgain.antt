@@ -1,15 +1,14 @@
 -- The text of an ontology is read as its axioms.
-use Rattle.std.proofs.Common.{◌≡◌, ℕ, Bool, List, [], None, Ok, map, refl, sym, ap, subst, ◌∙◌}
+use Rattle.std.proofs.Common.{◌≡◌, ℕ, Bool, List, [], None, map, sym, ap, subst, ◌∙◌}
 use Rattle.std.proofs.Math.Logic.{∥∥₁_elim, ∥∥₁_map, ∥∥₁_prop}
 use Rattle.text_sets.specs.Sets.{SameMembers}
 use Rattle.text_sets.proofs.SetLemmas.{same_trans}
-use Rattle.obo_frames.specs.Answer.{document_of}
-use Rattle.obo_frames.specs.Framed.{Framed, unlined}
+use Rattle.obo_frames.specs.Framed.{unlined}
 use Rattle.obo_frames.specs.Soundness.{IsKept, IsSound}
 use Rattle.obo_frames.specs.declared.placed.Placed.{Placed}
 use Rattle.obo_frames.proofs.AnswerLemmas.{is_exact}
 use Rattle.owl_ontology.specs.Ontology.{OntologyState, axioms_of}
-use Rattle.obo_mapping.specs.Back.{IsSpellable, back, writing_of}
+use Rattle.obo_mapping.specs.Back.{IsSpellable, back}
 use Rattle.obo_mapping.specs.Documents.{name_of, norm, owl, spaced}
 use Rattle.obo_mapping.specs.TwoValues.{two_values}
 use Rattle.obo_mapping.proofs.BackLaw.{axioms_read_back}

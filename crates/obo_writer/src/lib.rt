@@ -3,7 +3,8 @@
 #![tactic(auto)]
 
 mod laws;
+mod missing;
 mod text;
 
-pub use laws::texts_read_back;
+pub use laws::{document_is_normal, spaced_document_is_normal, texts_read_back};
 pub use text::obo_text;
