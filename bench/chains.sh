@@ -2,8 +2,8 @@
 # Times chains over one ontology: seconds, and bytes of peak memory for each byte read.
 #   bench/chains.sh FILE
 # FILE is an OBO file, as the Gene Ontology; where it is missing nothing is measured, and the status is 0. The chains are:
-# OBO to OBO, OBO to functional-style syntax, a module of 50 terms by each method, relax, and reduce. The terms are each
-# n-th class of the file. `robot` builds the program first, if it has to be built; what is timed is the program itself.
+# OBO to OBO, OBO to functional-style syntax, a module of 50 terms by each method and one of all terms, reason, relax, reduce,
+# and these three one after the other. The 50 terms are each n-th class of the file. `robot` builds the program first, if it has to be built; what is timed is the program itself.
 set -e
 if [ $# -ne 1 ]; then
   echo "usage: bench/chains.sh FILE" >&2
@@ -35,7 +35,7 @@ measure() {
   /usr/bin/time -f '%e %M' -o spent "$program" merge --input "$file" "$@" >report
   read -r seconds kilobytes <spent
   echo "$name: $seconds s, $((kilobytes * 1024 / bytes)) bytes of memory for each byte read"
-  grep -E '^(extract|relax|reduce)' report || true
+  grep -E '^(extract|reason|relax|reduce)' report || true
 }
 echo "$bytes bytes, $(wc -l <ids) terms, $(wc -l <terms) of them in the seed"
 measure 'to OBO' convert --check false --output out.obo
@@ -43,5 +43,8 @@ measure 'to functional-style syntax' convert --output out.ofn
 for method in BOT TOP STAR; do
   measure "extract $method" extract --method "$method" --term-file terms convert --check false --output "$method.obo"
 done
+measure 'extract STAR of all terms' extract --method STAR --term-file ids convert --check false --output all.obo
+measure 'reason' reason convert --check false --output reasoned.obo
 measure 'relax' relax convert --check false --output relaxed.obo
 measure 'reduce' reduce convert --check false --output reduced.obo
+measure 'reason relax reduce' reason relax reduce convert --check false --output released.obo

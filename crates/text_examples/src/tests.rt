@@ -3,3 +3,4 @@ mod axioms;
 mod exprs;
 mod functional;
 mod generated;
+mod spellable;

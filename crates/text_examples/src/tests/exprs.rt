@@ -3,8 +3,9 @@ ghost use Rattle.std.specs.Prelude.{◌≤◌, IfOk, IsTrue};
 ghost use Rattle.rel_io.specs.Texts.{is_clean_iri};
 ghost use Rattle.owl_axioms.specs.Made.{AreProperExprs, IsProperExpr};
 
+use iri_map::{iri_is_clean, iri_of};
 use owl_axioms::{ClassExpr, and_of, class_named, or_of};
-use rel_io::{Boxed, Iri, NoMemory};
+use rel_io::{Boxed, Bytes, Iri, NoMemory};
 use std::alloc::Global;
 
 /// The sign at a place of some signs, or `a` where there is none.
@@ -19,9 +20,31 @@ fn letter_of(sign: u8) -> u8
     if sign < 97 { 97 } else { sign }
 }
 
+/// The IRI that a sign stands for: `{` and `}` are those of the ids `EX:1` and `EX:2`, and a letter is itself, which is the
+/// IRI of no id.
+pub fn iri(alloc: Global, sign: u8) -> Result<Iri, NoMemory>
+    ensures { IfOk result (λ iri. IsTrue (is_clean_iri iri)) }
+{
+    match sign {
+        b'{' => named(alloc, b"EX:1"),
+        b'}' => named(alloc, b"EX:2"),
+        _ => of_letter(alloc, sign),
+    }
+}
+
+/// The IRI of an id.
+fn named(alloc: Global, id: &[u8]) -> Result<Iri, NoMemory>
+    ensures { IfOk result (λ iri. IsTrue (is_clean_iri iri)) }
+{
+    let id = Bytes::from_slice(alloc, id)?;
+    let space = Bytes::from_slice(alloc, b"ex")?;
+    iri_is_clean(&id, &space);
+    iri_of(alloc, &id, &space)
+}
+
 /// The IRI of one letter.
 #[tactic(auto, using(crate::proofs::Proper::letter_clean))]
-pub fn iri(alloc: Global, sign: u8) -> Result<Iri, NoMemory>
+fn of_letter(alloc: Global, sign: u8) -> Result<Iri, NoMemory>
     ensures { IfOk result (λ iri. IsTrue (is_clean_iri iri)) }
 {
     let letter = letter_of(sign);
@@ -131,8 +154,8 @@ fn deep(alloc: Global) -> Result<ClassExpr, NoMemory>
 }
 
 /// The expression of a sign: `1` and `0` are owl:Thing and owl:Nothing, `&` and `/` the intersection and the union of a, b
-/// and c, `!` the complement of a, `D` an expression with others inside, `S`, `A`, `L`, `M` and `X` the restrictions of p to
-/// a, and a letter is its class.
+/// and c, `[` and `]` those of EX:1 and EX:2, `!` the complement of a, `D` an expression with others inside, `S`, `A`, `L`,
+/// `M` and `X` the restrictions of p to a, and each other sign is the class of its IRI.
 #[tactic(auto, using(owl_axioms::proofs::Layers::proper_of_thing, owl_axioms::proofs::Layers::proper_of_nothing))]
 pub fn expr(alloc: Global, sign: u8) -> Result<ClassExpr, NoMemory>
     ensures { IfOk result IsProperExpr }
@@ -142,6 +165,8 @@ pub fn expr(alloc: Global, sign: u8) -> Result<ClassExpr, NoMemory>
         b'0' => Ok(ClassExpr::Nothing),
         b'&' => group(alloc, false, b"cba", class(alloc, b'c')?),
         b'/' => group(alloc, true, b"cba", class(alloc, b'c')?),
+        b'[' => group(alloc, false, b"{", class(alloc, b'}')?),
+        b']' => group(alloc, true, b"{", class(alloc, b'}')?),
         b'!' => complement(alloc, class(alloc, b'a')?),
         b'D' => deep(alloc),
         b'A'..=b'Z' => restricted(alloc, sign, b'p', class(alloc, b'a')?),

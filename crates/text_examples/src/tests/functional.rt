@@ -47,7 +47,7 @@ fn text_of(alloc: Global, input: &str) -> Result<Vec<u8>, NoMemory> {
 }
 
 /// The ontology of this name with these axioms, or of none where the name is empty.
-fn ontology(alloc: Global, name: &str, axioms: &str) -> Result<Ontology, NoMemory> {
+pub fn ontology(alloc: Global, name: &str, axioms: &str) -> Result<Ontology, NoMemory> {
     let mut ontology = Ontology::new(alloc, name_of(alloc, name)?)?;
     if axioms.is_empty() {
         return Ok(ontology);
