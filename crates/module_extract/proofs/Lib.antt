@@ -1,3 +1,4 @@
+pub mod Chain
 pub mod Counting
 pub mod Extending
 pub mod Flags

@@ -3,6 +3,7 @@
 //! extends to one of the axioms that it was taken from.
 #![tactic(auto)]
 
+mod examples;
 mod front;
 mod growing;
 mod laws;
@@ -11,6 +12,7 @@ mod naming;
 mod setting;
 mod ships;
 
+pub use examples::chain_bound;
 pub use growing::module;
 pub use laws::{closed_extends, closed_keeps, module_is_told, shipped_keeps};
 pub use logic::{is_logical, logical};
