@@ -4,14 +4,13 @@ use Rattle.std.specs.Prelude.{codes}
 use Rattle.owl_axioms.proofs.Listed.{names_layer}
 use Rattle.owl_axioms.specs.Names.{body_names, name_of, names_in, names_step}
 use Rattle.owl_axioms.specs.Signature.{added, name_count, no_names}
-use Rattle.owl_axioms.specs.declared.body.Axiom.{Axiom}
 use Rattle.owl_axioms.specs.declared.expr.ClassExpr.{ClassExpr}
 use Rattle.owl_axioms.specs.declared.expr.ClassExpr.TheOpen.{ClassExpr-F}
 use Rattle.owl_axioms.specs.declared.expr.ClassExpr.TheVariants as expr
 use Rattle.owl_axioms.specs.declared.name.Kind.TheVariants as kind
 use Rattle.owl_axioms.specs.declared.name.Name.{Name}
 use Rattle.owl_sem.specs.Models.{is_logical}
-use Rattle.module_extract.specs.Examples.{ChainBound, chain, defined, every, first, fourth, second, third}
+use Rattle.module_extract.specs.Examples.{ChainBound, chain, defined, every}
 use Rattle.module_extract.specs.Tests.{logical_part, names_number, total}
 
 class_names : (a : List ℕ) → names_in (expr.Class a) ≡ name_of kind.Class a ∷ []

@@ -1,6 +1,6 @@
 -- How many tests a small part may take, worked out by hand: of six classes the first is below the second, the second below the
 -- third, the third is what is of the fifth and has some filler of the sixth, and the fourth is below the first. (Own.)
-use Rattle.std.specs.Prelude.{ℕ, ◌≡◌, Bool, true, List, [], ◌∷◌, codes, length}
+use Rattle.std.specs.Prelude.{◌≡◌, Bool, true, List, [], ◌∷◌, codes, length}
 use Rattle.owl_axioms.specs.declared.body.Axiom.{Axiom}
 use Rattle.owl_axioms.specs.declared.body.Body.{Body}
 use Rattle.owl_axioms.specs.declared.body.Body.TheVariants as body

@@ -48,32 +48,57 @@ fn enter(
     Ok(())
 }
 
-/// Where its names are outside, a restriction and its filler are empty for bottom; when the role and then the class
-/// entered, nothing is known of them.
+/// The property r enters the signature.
+fn enter_property(
+    alloc: Global,
+    pool: &Pool,
+    sig: &mut Sig,
+    verdicts: &mut Verdicts<Bot>,
+) -> Result<(), NoMemory>
+    requires stand { StandFor class.Empty role.Empty (scope_of sig.old) pool.now verdicts.old }
+    ensures { OnOk result (StandFor class.Empty role.Empty (scope_of sig.new) pool.now verdicts.new) }
+{
+    let iri = Iri::from_slice(alloc, b"r")?;
+    let kind = Kind::Role;
+    enter(pool, sig, verdicts, &Name { kind, iri })
+}
+
+/// The class a enters the signature.
+fn enter_class(
+    alloc: Global,
+    pool: &Pool,
+    sig: &mut Sig,
+    verdicts: &mut Verdicts<Bot>,
+) -> Result<(), NoMemory>
+    requires stand { StandFor class.Empty role.Empty (scope_of sig.old) pool.now verdicts.old }
+    ensures { OnOk result (StandFor class.Empty role.Empty (scope_of sig.new) pool.now verdicts.new) }
+{
+    let iri = Iri::from_slice(alloc, b"a")?;
+    let kind = Kind::Class;
+    enter(pool, sig, verdicts, &Name { kind, iri })
+}
+
+/// Whether two nodes are empty for bottom where the signature has no name, and when the property entered it, and nothing is
+/// known of them when the class entered it too.
+fn are_renewed(alloc: Global, pool: &Pool) -> Result<bool, NoMemory> {
+    let mut sig = Sig::new(alloc)?;
+    let mut verdicts = Verdicts::<Bot>::new(alloc, pool, &sig)?;
+    let first = are_known(pool, &sig, &verdicts, Finding::Empty);
+    enter_property(alloc, pool, &mut sig, &mut verdicts)?;
+    let second = are_known(pool, &sig, &verdicts, Finding::Empty);
+    enter_class(alloc, pool, &mut sig, &mut verdicts)?;
+    Ok(first && second && are_known(pool, &sig, &verdicts, Finding::Unknown))
+}
+
+/// What is known of the nodes of a pool with a restriction and its filler.
 #[test]
 fn verdicts_are_kept(rt: HostRuntime) -> Result<(), Fail> {
     let alloc = rt.alloc();
-    let mut pool = Pool::new(alloc)?;
     let tree = with_a(alloc)?;
+    let mut pool = Pool::new(alloc)?;
     pool.intern(&tree)?;
     drop(tree);
-    let mut sig = Sig::new(alloc)?;
-    let mut verdicts = Verdicts::<Bot>::new(alloc, &pool, &sig)?;
-    let first = are_known(&pool, &sig, &verdicts, Finding::Empty);
-    assert!(rt; first);
-    let r = Name {
-        kind: Kind::Role,
-        iri: Iri::from_slice(alloc, b"r")?,
-    };
-    enter(&pool, &mut sig, &mut verdicts, &r)?;
-    let second = are_known(&pool, &sig, &verdicts, Finding::Empty);
-    assert!(rt; second);
-    let a = Name {
-        kind: Kind::Class,
-        iri: Iri::from_slice(alloc, b"a")?,
-    };
-    enter(&pool, &mut sig, &mut verdicts, &a)?;
-    let last = are_known(&pool, &sig, &verdicts, Finding::Unknown);
-    assert!(rt; last);
+    let renewed = are_renewed(alloc, &pool)?;
+    assert!(rt; renewed);
     Ok(())
 }
