@@ -38,6 +38,7 @@ cd "$folder" || exit 1
 
 # Each of these prints an input of N frames, clauses or signs.
 frame_lines() { awk -v n="$1" 'BEGIN { for (i = 0; i < n; i++) printf "[Term]\nid: A:%07d\n\n", i }'; }
+blank_lines() { yes '' | head -c "$1"; }
 bare_frames() { awk -v n="$1" 'BEGIN { for (i = 0; i < n; i++) print "[Term]" }'; }
 many_parents() { awk -v n="$1" 'BEGIN { print "[Term]\nid: A:x"; for (i = 0; i < n; i++) printf "is_a: A:%07d\n", i }'; }
 many_synonyms() { awk -v n="$1" 'BEGIN { print "[Term]\nid: A:1"; for (i = 0; i < n; i++) printf "synonym: \"s%07d\" EXACT []\n", i }'; }
@@ -146,6 +147,7 @@ echo '| input | bytes read | status | seconds | worked | megabytes | bytes a byt
 echo '|---|---|---|---|---|---|---|---|'
 twice 'frames with an id and nothing else' 0 $((size * 10)) frame_lines
 twice 'frame lines without an id' 'in.obo:1: no id' $((size * 28)) bare_frames
+twice 'lines without a byte' 0 $((size * 20)) blank_lines
 twice 'a frame with N parents' 0 "$size" many_parents
 twice 'a frame with N parents, reason relax reduce' 0 "$size" many_parents "${all_steps[@]}"
 twice 'a frame with N synonyms' 0 "$size" many_synonyms
