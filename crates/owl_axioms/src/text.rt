@@ -161,7 +161,6 @@ fn push_counted(
 }
 
 /// Appends an annotation of an axiom.
-
 pub fn push_side(out: &mut Vec<u8>, side: &Side) -> Result<(), NoMemory>
     ensures { OnOk result (out.new.items ≡ out.old.items ++ spec.side_text side.now) }
 {
