@@ -109,7 +109,7 @@ fn qualifiers_in(
     Ok(None)
 }
 
-/// A block with its last qualifier, where its end stands.
+/// A block with its last qualifier, at its size, where its end stands.
 fn block_end(
     qualifiers: Vec<Qualifier>,
     marks: &[MarkedByte],
@@ -118,7 +118,11 @@ fn block_end(
 {
     match behind_sign(b'}', marks) {
         None => None,
-        Some(rest) => Some((Items::from_vec(qualifiers), rest)),
+        Some(rest) => {
+            let mut qualifiers = qualifiers;
+            qualifiers.shrink_to_fit();
+            Some((Items::from_vec(qualifiers), rest))
+        }
     }
 }
 

@@ -93,7 +93,7 @@ fn xrefs_in(alloc: Global, marks: &[MarkedByte]) -> Result<(Items<Xref>, &[Marke
     Err(LineFault::Syntax(SyntaxKind::XrefList))
 }
 
-/// A list with its last entry, where its end stands.
+/// A list with its last entry, at its size, where its end stands.
 fn list_end(
     xrefs: Vec<Xref>,
     marks: &[MarkedByte],
@@ -102,7 +102,11 @@ fn list_end(
 {
     match behind_sign(b']', marks) {
         None => Err(LineFault::Syntax(SyntaxKind::XrefList)),
-        Some(rest) => Ok((Items::from_vec(xrefs), rest)),
+        Some(rest) => {
+            let mut xrefs = xrefs;
+            xrefs.shrink_to_fit();
+            Ok((Items::from_vec(xrefs), rest))
+        }
     }
 }
 

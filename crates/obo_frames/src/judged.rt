@@ -24,7 +24,11 @@ pub fn judged(alloc: Global, draft: Draft) -> Result<Document, DocFault>
     let short = short_line(alloc, placed.as_slice())?;
     match frame_fault(lost, short) {
         Some(fault) => Err(fault),
-        None => Ok(Document::of(placed.into_vec())),
+        None => {
+            let mut placed = placed.into_vec();
+            placed.shrink_to_fit();
+            Ok(Document::of(placed))
+        }
     }
 }
 

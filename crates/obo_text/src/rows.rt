@@ -117,6 +117,7 @@ pub fn sorted_rows(rows: Vec<Row>) -> Vec<Row>
     let mut rows = rows;
     rows.sort_unstable();
     rows.dedup();
+    rows.shrink_to_fit();
     rows
 }
 
@@ -144,14 +145,16 @@ fn row_at(alloc: Global, kind: FrameKind, one: &Placed) -> Result<Option<Row>, N
     }
 }
 
-/// A clause as a row.
+/// A clause as a row, with texts at their size.
 fn row_of(alloc: Global, kind: FrameKind, id: &Bytes, clause: &Clause) -> Result<Row, NoMemory>
     ensures { IfOk result (λ row. row ≡ row_of kind id.now clause.now) }
 {
     let mut value = Vec::new(alloc);
     push_value(&mut value, &clause.value)?;
+    value.shrink_to_fit();
     let mut block = Vec::new(alloc);
     push_block(&mut block, clause.qualifiers.as_slice())?;
+    block.shrink_to_fit();
     let target = last_id(alloc, &clause.value)?;
     let tag = clause.tag.copy(alloc)?;
     let id = id.copy(alloc)?;

@@ -35,6 +35,8 @@ pub fn push_lines(
 {
     let printed = print_part(alloc, ontology, declared, first)?;
     let lines = sorted_pieces(alloc, printed.buffer.as_slice(), printed.lengths.as_slice())?;
+    // Each line has one byte behind its text.
+    out.reserve_exact(printed.buffer.len().saturating_add(lines.len()))?;
     push_all(out, lines.as_slice())?;
     Ok(())
 }
@@ -56,6 +58,8 @@ fn print_part(
             push_text(alloc, &mut buffer, &mut lengths, axiom, declared)?;
         }
     }
+    buffer.shrink_to_fit();
+    lengths.shrink_to_fit();
     Ok(Printed { buffer, lengths })
 }
 
