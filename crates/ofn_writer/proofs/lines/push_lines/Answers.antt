@@ -25,5 +25,6 @@ returns c =
     let before = c.args.out.now.items in
     let cut = (λ i. pieces (c.as_slice.ensures.value i) (c.as_slice-2.ensures.value i)) ∙ pieces_are texts buffer lengths c.in_ok-printed.ensures in
     c.in_ok-push_all.ensures
+    ∙ ap (λ start. start ++ flat_map line (map (λ text. text.now) c.as_slice-3.result.now)) c.reserve_exact.ensures.items
     ∙ ap (λ lent. before ++ flat_map line (map (λ text. text.now) lent)) c.as_slice-3.ensures.value
     ∙ ap (λ ts. before ++ flat_map line ts) (c.in_ok-lines.ensures ∙ ap sorted cut)
