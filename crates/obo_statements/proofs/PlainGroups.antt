@@ -1,7 +1,7 @@
 -- A group is spelled by its values: no operand has qualifiers that have a meaning of their own.
 use Rattle.std.proofs.Common.{◌≡◌, ℕ, List, [], ◌∷◌, Option, None, Some, map, refl, sym, ap, subst, ◌∙◌}
 use Rattle.std.specs.BTreeSet.{insert_key}
-use Rattle.std.specs.Option.{option_and_then, option_map}
+use Rattle.std.specs.Option.{IsSome, option_and_then, option_map}
 use Rattle.std.specs.Ordering.{match_ordering, ordering_then}
 use Rattle.std.specs.declared.cmp.Ordering.{Ordering}
 use Rattle.std.specs.declared.cmp.Ordering.TheVariants.{Equal, Greater, Less}
@@ -50,6 +50,24 @@ unfolding sorted_on
 sorted_plainly [] = refl
 sorted_plainly (v ∷ vs) =
     ap (λ words. insert_key (by_key texts_cmp worded_key) words (worded_plainly v)) (sorted_plainly vs) ∙ put_plainly (sorted_by value_text vs) v
+
+-- ---- an operand has words where it has a value
+
+pub worded_from_value : (writing : Writing) (group : Group) (one : ClassExpr) → IsSome (operand_value writing group one) → IsSome (operand_worded writing group one)
+unfolding operand_worded
+worded_from_value writing group one = by_value (operand_value writing group one)
+  where
+    by_value : (o : Option Value) → IsSome o → IsSome (option_map worded_plainly o)
+    by_value None some = some
+    by_value (Some v) some = refl
+
+pub value_from_worded : (writing : Writing) (group : Group) (one : ClassExpr) → IsSome (operand_worded writing group one) → IsSome (operand_value writing group one)
+unfolding operand_worded
+value_from_worded writing group one = by_value (operand_value writing group one)
+  where
+    by_value : (o : Option Value) → IsSome (option_map worded_plainly o) → IsSome o
+    by_value None some = some
+    by_value (Some v) some = refl
 
 -- ---- the clauses
 
