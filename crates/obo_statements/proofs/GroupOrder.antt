@@ -1,9 +1,8 @@
 -- The clauses of a group stand in the order of their printed values.
-use Rattle.std.proofs.Common.{◌≡◌, ℕ, List, [], ◌∷◌, Some, map, inl, inr, refl, sym, ap, subst, ◌∙◌}
+use Rattle.std.proofs.Common.{◌≡◌, ℕ, List, [], ◌∷◌, Some, map, refl, sym, ap, subst, ◌∙◌}
 use Rattle.std.specs.Option.{option_and_then, option_map}
 use Rattle.std.specs.Ordering.{ordering_then}
-use Rattle.std.specs.declared.cmp.Ordering.{Ordering}
-use Rattle.std.specs.declared.cmp.Ordering.TheVariants.{Equal, Less}
+use Rattle.std.specs.declared.cmp.Ordering.TheVariants.{Equal}
 use Rattle.std.proofs.lemmas.Option.{none-some}
 use Rattle.clause_printer.specs.Printing.{block_text, value_text}
 use Rattle.obo_clause.specs.declared.clause.Clause.{Clause}
@@ -13,7 +12,7 @@ use Rattle.owl_axioms.specs.declared.body.Axiom.{Axiom}
 use Rattle.owl_axioms.specs.declared.body.Body.{Body}
 use Rattle.owl_axioms.specs.declared.body.Body.TheVariants as body
 use Rattle.text_sets.specs.Parts.{each_some}
-use Rattle.text_sets.specs.Sorted.{IsBelow, IsBelowOn, Rises, RisesOn, by_text, sorted_by, texts_cmp}
+use Rattle.text_sets.specs.Sorted.{IsBelow, IsBelowOn, Rises, RisesOn, sorted_by, texts_cmp}
 use Rattle.text_sets.proofs.PartLemmas.{option_and_then_some, option_map_some}
 use Rattle.text_sets.proofs.SortedLemmas.{Rises-sorted_by}
 use Rattle.obo_notes.specs.Context.{Agree, Reading, Writing}

@@ -1,5 +1,5 @@
 -- A group is spelled by its values: no operand has qualifiers that have a meaning of their own.
-use Rattle.std.proofs.Common.{◌≡◌, ℕ, List, [], ◌∷◌, Option, None, Some, map, refl, sym, ap, subst, ◌∙◌}
+use Rattle.std.proofs.Common.{◌≡◌, ℕ, List, [], ◌∷◌, Option, None, Some, map, refl, ap, ◌∙◌}
 use Rattle.std.specs.BTreeSet.{insert_key}
 use Rattle.std.specs.Option.{IsSome, option_and_then, option_map}
 use Rattle.std.specs.Ordering.{match_ordering, ordering_then}
@@ -18,8 +18,7 @@ use Rattle.text_sets.specs.Parts.{each_some}
 use Rattle.text_sets.specs.Sorted.{by_key, by_text, sorted_by, sorted_on, texts_cmp}
 use Rattle.obo_notes.specs.Context.{Writing}
 use Rattle.obo_notes.specs.Keys.{qualifier_of}
-use Rattle.obo_notes.specs.Notes.{qualifiers_of}
-use Rattle.obo_statements.specs.Extras.{Worded, worded_plainly}
+use Rattle.obo_statements.specs.Extras.{worded_plainly}
 use Rattle.obo_statements.specs.Groups.{Group, clauses_with, group_clauses, group_in_body, group_operands, group_spelling, group_tag, operand_value, operand_worded, other_expr, worded_clause, worded_key}
 use Rattle.obo_statements.specs.inner.PlainGroups.{plain_clauses_with, plain_group_clauses, plain_group_in_body}
 
