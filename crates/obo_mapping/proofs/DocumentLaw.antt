@@ -25,7 +25,9 @@ use Rattle.obo_notes.specs.Context.{Agree, Writing, reading_in, where_true, writ
 use Rattle.obo_mapping.specs.Documents.{clauses_for, declared_in, group_of, group_said, has_tag, header_with, is_header, is_truth_value, is_typedef, is_untranslatable, kept_with, names_in, owl, situation_of, spaced, space_of, spelled, text_in, word_in}
 use Rattle.obo_notes.specs.Forms.{first_part}
 use Rattle.obo_notes.specs.Notes.{form_of, rows}
-use Rattle.obo_statements.specs.Groups.{Group, group_in_body, group_spelling, group_tag, intersection, union}
+use Rattle.obo_statements.specs.Groups.{Group, group_spelling, group_tag, intersection, union}
+use Rattle.obo_statements.specs.inner.PlainGroups.{plain_group_in_body}
+use Rattle.obo_statements.proofs.PlainGroups.{group_is_spelled_plainly}
 use Rattle.obo_mapping.proofs.SaidSingly.{owl_singly}
 use Rattle.obo_mapping.proofs.AxiomLaws.{Knows}
 use Rattle.obo_notes.proofs.ContextLemmas.{Agree-in}
@@ -79,8 +81,7 @@ declared_clauses w declared a cs name says is =
     (id.0, id.1, id.2)
 
 pub no_group_of_name : (w : Writing) (x : List ℕ) (group : Group) (a : Axiom) (name : Name) (clauses : List Clause) → a.body ≡ body.Declaration name → group_spelling w x group a ≡ Some clauses → ⊥
-unfolding group_spelling
-no_group_of_name w x group a name clauses says is = none-some clauses (sym (ap (group_in_body w x group a.sides) says) ∙ is)
+no_group_of_name w x group a name clauses says is = none-some clauses (sym (ap (plain_group_in_body w x group a.sides) says) ∙ sym (group_is_spelled_plainly w x group a) ∙ is)
 
 module _ (names : List (List ℕ)) (K : List Framed) (O : List Axiom) where
   abbrev pub space : List ℕ

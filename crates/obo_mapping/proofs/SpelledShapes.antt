@@ -38,7 +38,9 @@ use Rattle.obo_notes.specs.Keys.{is_reserved_key}
 use Rattle.obo_notes.specs.Notes.{qualifiers_of, spelling}
 use Rattle.obo_statements.specs.Statements.{statement_spelling}
 use Rattle.obo_statements.specs.Anchors.{anchors, class_anchor}
-use Rattle.obo_statements.specs.Groups.{Group, clauses_with, group_clauses, group_in_body, group_operands, group_spelling, group_tag, intersection, operand_value, other_expr, union}
+use Rattle.obo_statements.specs.Groups.{Group, group_operands, group_spelling, group_tag, intersection, operand_value, other_expr, union}
+use Rattle.obo_statements.specs.inner.PlainGroups.{plain_clauses_with, plain_group_clauses, plain_group_in_body}
+use Rattle.obo_statements.proofs.PlainGroups.{group_is_spelled_plainly}
 use Rattle.obo_notes.specs.Laws.{IsInPrintedOrder}
 use Rattle.obo_notes.proofs.PrintedOrder.{spelled_note_is_in_order}
 use Rattle.obo_statements.proofs.PrintedLists.{statement_in_order}
@@ -80,7 +82,7 @@ operand_not_raw writing intersection c v is =
     ⊎_elim (λ one. id_not_raw (Rattle.obo_statements.specs.Classes.class_id writing c) v one) (λ two. words_not_raw writing c v two)
     (option_or_some (Rattle.obo_statements.specs.Classes.as_id (Rattle.obo_statements.specs.Classes.class_id writing c)) (Rattle.obo_statements.specs.Restrictions.restriction_words writing c) v is)
 
-clauses_of_group : (group : Group) (qs : List Qualifier) (values : List Value) → list_any (λ (q : Qualifier). is_reserved_key q.key) qs ≡ false → ((v : Value) → In v values → is_raw v ≡ false) → (clause : Clause) → In clause (group_clauses group qs values) → OfGroup group clause
+clauses_of_group : (group : Group) (qs : List Qualifier) (values : List Value) → list_any (λ (q : Qualifier). is_reserved_key q.key) qs ≡ false → ((v : Value) → In v values → is_raw v ≡ false) → (clause : Clause) → In clause (plain_group_clauses group qs values) → OfGroup group clause
 clauses_of_group group qs [] free each clause here = absurd here
 clauses_of_group group qs (one ∷ values) free each clause here =
     ⊎_elim
@@ -91,15 +93,14 @@ clauses_of_group group qs (one ∷ values) free each clause here =
     here
 
 pub group_clause : (writing : Writing) (x : List ℕ) (group : Group) (a : Axiom) (clauses : List Clause) → group_spelling writing x group a ≡ Some clauses → (clause : Clause) → In clause clauses → OfGroup group clause
-unfolding group_spelling
-group_clause writing x group a clauses is clause here = by_body a.body is
+group_clause writing x group a clauses is clause here = by_body a.body (sym (group_is_spelled_plainly writing x group a) ∙ is)
   where
-    by_body : (said : Body) → group_in_body writing x group a.sides said ≡ Some clauses → OfGroup group clause
+    by_body : (said : Body) → plain_group_in_body writing x group a.sides said ≡ Some clauses → OfGroup group clause
     by_body (body.Equiv c d) is =
-        let qs = option_and_then_some (λ qualifiers. option_and_then (clauses_with writing group qualifiers) (other_expr x c d)) (qualifiers_of a.sides) clauses is in
-        let whole = option_and_then_some (clauses_with writing group qs.0) (other_expr x c d) clauses qs.2 in
-        let operands = option_and_then_some (λ operands. option_map (λ values. group_clauses group qs.0 (sorted_by value_text values)) (each_some (operand_value writing group) operands)) (group_operands group whole.0) clauses whole.2 in
-        let values = option_map_some (λ values. group_clauses group qs.0 (sorted_by value_text values)) (each_some (operand_value writing group) operands.0) clauses operands.2 in
+        let qs = option_and_then_some (λ qualifiers. option_and_then (plain_clauses_with writing group qualifiers) (other_expr x c d)) (qualifiers_of a.sides) clauses is in
+        let whole = option_and_then_some (plain_clauses_with writing group qs.0) (other_expr x c d) clauses qs.2 in
+        let operands = option_and_then_some (λ operands. option_map (λ values. plain_group_clauses group qs.0 (sorted_by value_text values)) (each_some (operand_value writing group) operands)) (group_operands group whole.0) clauses whole.2 in
+        let values = option_map_some (λ values. plain_group_clauses group qs.0 (sorted_by value_text values)) (each_some (operand_value writing group) operands.0) clauses operands.2 in
         clauses_of_group group qs.0 (sorted_by value_text values.0) (no_reserved a.sides qs.0 qs.1)
         (λ v among. let one = each_some-parts (operand_value writing group) operands.0 values.0 values.1 v (sorted_by-only value_text values.0 v among) in operand_not_raw writing group one.0 v one.2)
         clause (subst (In clause) (sym values.2) here)
@@ -251,7 +252,7 @@ module _ (reading : Reading) (writing : Writing) (agree : Agree reading writing)
   class_only (expr.Class iri) name (inr none) = absurd none
   class_only _ name here = absurd here
 
-  group_of_classes : (said : Body) (sides : List Side) (x : List ℕ) (group : Group) (clauses : List Clause) → group_in_body writing x group sides said ≡ Some clauses → (name : Name) → In name (anchors said) → name.kind ≡ kinds.Class
+  group_of_classes : (said : Body) (sides : List Side) (x : List ℕ) (group : Group) (clauses : List Clause) → plain_group_in_body writing x group sides said ≡ Some clauses → (name : Name) → In name (anchors said) → name.kind ≡ kinds.Class
   unfolding anchors
   group_of_classes (body.Equiv c d) sides x group clauses is name here = ⊎_elim (class_only c name) (class_only d name) (In-append name (class_anchor c) (class_anchor d) here)
   group_of_classes _ sides x group clauses is name here = absurd (none-some clauses is)
@@ -266,12 +267,11 @@ module _ (reading : Reading) (writing : Writing) (agree : Agree reading writing)
     pub same : map (framed Term id) clauses ≡ cs
 
   pub group_at : (a : Axiom) (cs : List Framed) (group : Group) → group_spelled writing declared a group ≡ Some cs → IsGroupAt a cs group
-  unfolding group_spelling
   group_at a cs group is =
       let home = option_and_then_some (λ (home : Home). option_map (map (framed Term home.id)) (group_spelling writing home.entity.iri group a)) (home_of writing declared a.body) cs is in
       let clauses = option_map_some (map (framed Term home.0.id)) (group_spelling writing home.0.entity.iri group a) cs home.2 in
       let at = home_is writing declared a.body home.0 home.1 in
-      let class = group_of_classes a.body a.sides home.0.entity.iri group clauses.0 clauses.1 home.0.entity at.among in
+      let class = group_of_classes a.body a.sides home.0.entity.iri group clauses.0 (sym (group_is_spelled_plainly writing home.0.entity.iri group a) ∙ clauses.1) home.0.entity at.among in
       record {
         iri = home.0.entity.iri;
         id = home.0.id;

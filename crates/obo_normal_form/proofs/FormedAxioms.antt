@@ -52,7 +52,9 @@ use Rattle.obo_statements.specs.Restrictions.{restriction, restriction_words}
 use Rattle.obo_statements.specs.Values.{Statement, stated_plainly, value_plainly}
 use Rattle.obo_statements.specs.Statements.{StatementRow, statement_in, statement_spelling, statements_of}
 use Rattle.obo_statements.specs.Anchors.{anchors, class_anchor, class_entity}
-use Rattle.obo_statements.specs.Groups.{Group, clauses_with, expr_pair, group_clauses, group_expr, group_in_body, group_operands, group_spelling, group_tag, intersection, operand_plainly, operand_value, operands_in, other_expr, union}
+use Rattle.obo_statements.specs.Groups.{Group, expr_pair, group_expr, group_operands, group_spelling, group_tag, intersection, operand_plainly, operand_value, operands_in, other_expr, union}
+use Rattle.obo_statements.specs.inner.PlainGroups.{plain_clauses_with, plain_group_clauses, plain_group_in_body}
+use Rattle.obo_statements.proofs.PlainGroups.{group_is_spelled_plainly}
 use Rattle.obo_normal_form.proofs.FormedNotes.{HasForm, agree, all_not_six, declaration_formed, entity_iri, formed_by, frame_id_some, frame_of_entity, header_note_formed, note_formed, or_first, spacing_formed}
 use Rattle.obo_normal_form.proofs.FormedStatements.{OfQualifier, anchor_kind, class_anchor_named, class_read_some, clean_of, covers_at, iri_named, is_class_named, named_proper, order_total, restriction_proper, restriction_some, sides_some, some_map, then_some}
 use Rattle.obo_notes.proofs.Guards.{same_bytes, where_true_some}
@@ -380,22 +382,22 @@ module _ (d : List Framed) (sound : IsSound d) where
       whole_proper : is_proper_expr whole ≡ true
       whole_proper = group_proper g ops (sound.groups f g operands here has found) (Rises-sorted_by expr_text operands) (λ e among. (operand_of e among).1)
 
-      clauses_some : (qs : List Qualifier) → IsSome (clauses_with w g qs whole)
+      clauses_some : (qs : List Qualifier) → IsSome (plain_clauses_with w g qs whole)
       clauses_some qs =
-          subst (λ o. IsSome (option_and_then (λ operands. option_map (λ values. group_clauses g qs (sorted_by value_text values)) (each_some (operand_value w g) operands)) o)) (sym (operands_of g ops))
-          (some_map (λ values. group_clauses g qs (sorted_by value_text values)) (each_some (operand_value w g) ops) (each_some-some (operand_value w g) ops (λ e among. (operand_of e among).0)))
+          subst (λ o. IsSome (option_and_then (λ operands. option_map (λ values. plain_group_clauses g qs (sorted_by value_text values)) (each_some (operand_value w g) operands)) o)) (sym (operands_of g ops))
+          (some_map (λ values. plain_group_clauses g qs (sorted_by value_text values)) (each_some (operand_value w g) ops) (each_some-some (operand_value w g) ops (λ e among. (operand_of e among).0)))
 
       pair_formed : (p q : ClassExpr) → anchors (body.Equiv p q) ≡ class_entity x ∷ [] → other_expr x p q ≡ Some whole → is_proper_body (body.Equiv p q) ≡ true → HasForm d sound (record { body = body.Equiv p q; sides = sides })
-      unfolding group_spelling clauses_for
+      unfolding clauses_for
       pair_formed p q are other proper =
           let a : Axiom = record { body = body.Equiv p q; sides = sides } in
           let name = class_entity x in
           let home = some_value (home_of w declared a.body) (home_some name a.body (subst (In name) (sym are) (inl refl)) (source.entity_declared d sound f name here (in_group_entity f g has)) (frame_id_some d sound name (f.id, refl))) in
           let is_home = home_is w declared a.body home.0 home.1 in
           let entity : name ≡ home.0.entity = ⊎_elim (λ same. same) (λ none. absurd none) (subst (In home.0.entity) are is_home.among) in
-          let spelling : IsSome (group_in_body w x g sides (body.Equiv p q)) =
-          then_some (λ qs. option_and_then (clauses_with w g qs) (other_expr x p q)) (qualifiers_of sides) quals
-          (λ qs. subst (λ o. IsSome (option_and_then (clauses_with w g qs) o)) (sym other) (clauses_some qs)) in
+          let spelling : IsSome (group_spelling w x g a) =
+          subst (λ o. IsSome o) (sym (group_is_spelled_plainly w x g a)) (then_some (λ qs. option_and_then (plain_clauses_with w g qs) (other_expr x p q)) (qualifiers_of sides) quals
+          (λ qs. subst (λ o. IsSome (option_and_then (plain_clauses_with w g qs) o)) (sym other) (clauses_some qs))) in
           let at_home : IsSome (group_spelling w home.0.entity.iri g a) = subst (λ (n : Name). IsSome (group_spelling w n.iri g a)) entity spelling in
           let grouped : IsSome (group_spelled w declared a g) =
           subst (λ o. IsSome (option_and_then (λ (home : Home). option_map (map (framed Term home.id)) (group_spelling w home.entity.iri g a)) o)) (sym home.1) (some_map (map (framed Term home.0.id)) (group_spelling w home.0.entity.iri g a) at_home) in

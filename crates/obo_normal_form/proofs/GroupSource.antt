@@ -33,7 +33,9 @@ use Rattle.obo_statements.proofs.PlainMeaning.{grouped_plainly}
 use Rattle.owl_axioms.specs.Classes.{class_named}
 use Rattle.obo_statements.specs.Classes.{is_class}
 use Rattle.obo_statements.specs.Values.{Character, Statement, asymmetric, functional, inverse_functional, pair_of, reflexive, stated_plainly, symmetric, transitive}
-use Rattle.obo_statements.specs.Groups.{Group, clauses_with, expr_pair, group_clauses, group_expr, group_in_body, group_meaning, group_operands, group_spelling, intersection, operand_plainly, operand_value, other_expr, union}
+use Rattle.obo_statements.specs.Groups.{Group, expr_pair, group_expr, group_meaning, group_operands, group_spelling, intersection, operand_plainly, operand_value, other_expr, union}
+use Rattle.obo_statements.specs.inner.PlainGroups.{plain_clauses_with, plain_group_clauses, plain_group_in_body}
+use Rattle.obo_statements.proofs.PlainGroups.{group_is_spelled_plainly}
 use Rattle.obo_statements.proofs.GroupLaws.{class_named-text, group_is_no_class, whole_of}
 use Rattle.obo_notes.proofs.Guards.{where_true_some}
 use Rattle.obo_normal_form.proofs.OwlCases.{IsSaidBy, IsSpaced, SaidCase, grouped_by, owl_cases, said_cases, stated_by}
@@ -82,11 +84,11 @@ record HasGroup (w : Writing) (x : List ℕ) (g : Group) (c d : ClassExpr) : Typ
   other : other_expr x c d ≡ Some whole
   parts : group_operands g whole ≡ Some operands
 
-has_group : (w : Writing) (x : List ℕ) (g : Group) (sides : List Side) (c d : ClassExpr) (cs : List Clause) → group_in_body w x g sides (body.Equiv c d) ≡ Some cs → HasGroup w x g c d
+has_group : (w : Writing) (x : List ℕ) (g : Group) (sides : List Side) (c d : ClassExpr) (cs : List Clause) → plain_group_in_body w x g sides (body.Equiv c d) ≡ Some cs → HasGroup w x g c d
 has_group w x g sides c d cs is =
-    let qs = option_and_then_some (λ qualifiers. option_and_then (clauses_with w g qualifiers) (other_expr x c d)) (qualifiers_of sides) cs is in
-    let whole = option_and_then_some (clauses_with w g qs.0) (other_expr x c d) cs qs.2 in
-    let operands = option_and_then_some (λ operands. option_map (λ values. group_clauses g qs.0 (sorted_by value_text values)) (each_some (operand_value w g) operands)) (group_operands g whole.0) cs whole.2 in
+    let qs = option_and_then_some (λ qualifiers. option_and_then (plain_clauses_with w g qualifiers) (other_expr x c d)) (qualifiers_of sides) cs is in
+    let whole = option_and_then_some (plain_clauses_with w g qs.0) (other_expr x c d) cs qs.2 in
+    let operands = option_and_then_some (λ operands. option_map (λ values. plain_group_clauses g qs.0 (sorted_by value_text values)) (each_some (operand_value w g) operands)) (group_operands g whole.0) cs whole.2 in
     record { whole = whole.0; operands = operands.0; other = whole.1; parts = operands.1 }
 
 -- which of the two it is
@@ -105,7 +107,7 @@ other_cases x c d whole is =
 no_group_of_class : (g : Group) (whole : ClassExpr) (operands : List ClassExpr) (i : List ℕ) → group_operands g whole ≡ Some operands → whole ≡ class_named i → ⊥
 no_group_of_class g whole operands i parts is = group_is_no_class g operands i (ap expr_text (whole_of g whole operands parts ∙ is))
 
-classes_no_group : (w : Writing) (x : List ℕ) (g : Group) (sides : List Side) (i j : List ℕ) (cs : List Clause) → group_in_body w x g sides (body.Equiv (class_named i) (class_named j)) ≡ Some cs → ⊥
+classes_no_group : (w : Writing) (x : List ℕ) (g : Group) (sides : List Side) (i j : List ℕ) (cs : List Clause) → plain_group_in_body w x g sides (body.Equiv (class_named i) (class_named j)) ≡ Some cs → ⊥
 classes_no_group w x g sides i j cs is =
     let has = has_group w x g sides (class_named i) (class_named j) cs is in
     ⊎_elim (λ one. no_group_of_class g has.whole has.operands j has.parts one.0) (λ other. no_group_of_class g has.whole has.operands i has.parts other.0)
@@ -132,7 +134,7 @@ pair_group x i g h whole operands others c d other parts which =
 -- ---- statements have no group
 
 abbrev NoGroup : Body → Type 0
-NoGroup said = (w : Writing) (x : List ℕ) (g : Group) (sides : List Side) (cs : List Clause) → group_in_body w x g sides said ≡ Some cs → ⊥
+NoGroup said = (w : Writing) (x : List ℕ) (g : Group) (sides : List Side) (cs : List Clause) → plain_group_in_body w x g sides said ≡ Some cs → ⊥
 
 abbrev NoneHasGroup : Option Body → Type 0
 NoneHasGroup None = Unit {0}
@@ -181,11 +183,10 @@ meant_by reading i h clauses a is =
     record { operands = sorted_by expr_text made.0; body_is = ap (λ (b : Axiom). b.body) made.2 }
 
 meant_group : (w : Writing) (x i : List ℕ) (g h : Group) (a : Axiom) (cs : List Clause) → MeantBy i h a → group_spelling w x g a ≡ Some cs → (i ≡ x) × (h ≡ g)
-unfolding group_spelling
 meant_group w x i g h a cs by is =
     let c = class_named i in
     let whole = group_expr h by.operands in
-    let at = λ (said : Body) (same : said ≡ a.body). ap (group_in_body w x g a.sides) same ∙ is in
+    let at = λ (said : Body) (same : said ≡ a.body). ap (plain_group_in_body w x g a.sides) same ∙ sym (group_is_spelled_plainly w x g a) ∙ is in
     ⊎_elim
     (λ yes.
     let has = has_group w x g a.sides c whole cs (at (body.Equiv c whole) (sym (cond-true _ _ _ yes) ∙ by.body_is)) in
@@ -209,21 +210,20 @@ module _ (d : List Framed) (w : Writing) where
     pub iri : S.reading.iri one.id ≡ x
     pub means : group_meaning S.reading x g (map (λ (each : Framed). each.clause) (group_in S d x g)) ≡ Some a
 
-  no_case : (x : List ℕ) (g : Group) (a : Axiom) (cs : List Clause) (f : Framed) → SaidCase S f a → group_spelling w x g a ≡ Some cs → ⊥
-  unfolding group_spelling
-  no_case x g a cs f (inl declared) is = none-some cs (ap (λ (b : Axiom). group_in_body w x g b.sides b.body) declared.says ∙ is)
-  no_case x g a cs f (inr (inl noted)) is = none-some cs (ap (λ (b : Axiom). group_in_body w x g b.sides b.body) noted.says ∙ is)
-  no_case x g a cs f (inr (inr (inl noted))) is = none-some cs (ap (λ (b : Axiom). group_in_body w x g b.sides b.body) noted.says ∙ is)
+  no_case : (x : List ℕ) (g : Group) (a : Axiom) (cs : List Clause) (f : Framed) → SaidCase S f a → plain_group_in_body w x g a.sides a.body ≡ Some cs → ⊥
+  no_case x g a cs f (inl declared) is = none-some cs (ap (λ (b : Axiom). plain_group_in_body w x g b.sides b.body) declared.says ∙ is)
+  no_case x g a cs f (inr (inl noted)) is = none-some cs (ap (λ (b : Axiom). plain_group_in_body w x g b.sides b.body) noted.says ∙ is)
+  no_case x g a cs f (inr (inr (inl noted))) is = none-some cs (ap (λ (b : Axiom). plain_group_in_body w x g b.sides b.body) noted.says ∙ is)
   no_case x g a cs f (inr (inr (inr one))) is =
       let by = stated_by S.reading f.frame one.name.iri f.clause a one.means in
       subst NoneHasGroup by.said (stated_none S.reading one.name.iri by.statement f.clause.value) w x g a.sides cs is
 
   pub group_source : (x : List ℕ) (g : Group) (a : Axiom) (cs : List Clause) → In a (owl d) → group_spelling w x g a ≡ Some cs → IsFromGroup x g a
-  unfolding group_spelling
   group_source x g a cs here is =
+      let plainly = sym (group_is_spelled_plainly w x g a) ∙ is in
       ⊎_elim
       (λ (by : IsSaidBy d a). ⊎_elim
-      (λ alone. absurd (no_case x g a cs by.one (said_cases S by.one a alone) is))
+      (λ alone. absurd (no_case x g a cs by.one (said_cases S by.one a alone) plainly))
       (λ grouped.
       let one = grouped_by d by.one a grouped in
       let i = S.reading.iri by.one.id in
@@ -238,7 +238,7 @@ module _ (d : List Framed) (w : Writing) where
             (subst (λ h. group_meaning S.reading i h (map (λ (each : Framed). each.clause) (group_in S d i h)) ≡ Some a) same.1 one.means);
       })
       by.says)
-      (λ (new : IsSpaced d a). absurd (none-some cs (ap (λ (b : Axiom). group_in_body w x g b.sides b.body) new.same ∙ is)))
+      (λ (new : IsSpaced d a). absurd (none-some cs (ap (λ (b : Axiom). plain_group_in_body w x g b.sides b.body) new.same ∙ plainly)))
       (owl_cases d a here)
 
   -- two axioms of one group are one

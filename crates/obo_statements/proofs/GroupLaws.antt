@@ -46,7 +46,8 @@ use Rattle.obo_notes.specs.Context.{Agree, Reading, Writing}
 use Rattle.owl_axioms.specs.Classes.{class_named}
 use Rattle.obo_statements.specs.Classes.{as_id, class_id, class_read, is_class}
 use Rattle.obo_statements.specs.Restrictions.{restriction_words}
-use Rattle.obo_statements.specs.Groups.{Group, clauses_with, expr_pair, group_clauses, group_expr, group_in_body, group_operands, group_tag, intersection, operand_plainly, operand_value, operands_in, other_expr, union}
+use Rattle.obo_statements.specs.Groups.{Group, expr_pair, group_expr, group_operands, group_tag, intersection, operand_plainly, operand_value, operands_in, other_expr, union}
+use Rattle.obo_statements.specs.inner.PlainGroups.{plain_clauses_with, plain_group_clauses, plain_group_in_body}
 use Rattle.obo_statements.proofs.PlainMeaning.{plain_group}
 use Rattle.obo_notes.proofs.PartCovers.{some_value}
 use Rattle.obo_statements.proofs.StatementLaws.{both_orders, class_id-back, class_id-readable, class_text, is_class-back, nothing_text, thing_text, words_back}
@@ -135,7 +136,7 @@ module _ (reading : Reading) (writing : Writing) (agree : Agree reading writing)
 
   -- ---- the clauses of a group, read
 
-  pub read_clauses : (qualifiers : List Qualifier) (values : List Value) → each_some (λ (clause : Clause). operand_plainly reading group clause.value) (group_clauses group qualifiers values) ≡ each_some (operand_plainly reading group) values
+  pub read_clauses : (qualifiers : List Qualifier) (values : List Value) → each_some (λ (clause : Clause). operand_plainly reading group clause.value) (plain_group_clauses group qualifiers values) ≡ each_some (operand_plainly reading group) values
   read_clauses qualifiers [] = refl
   read_clauses qualifiers (v ∷ values) = ap (λ o. option_and_then (λ y. option_map (λ ys. y ∷ ys) o) (operand_plainly reading group v)) (read_more values)
     where
@@ -254,7 +255,7 @@ module _ (reading : Reading) (writing : Writing) (agree : Agree reading writing)
   pub record IsRising (said : Body) : Type 0 where
     pub rising : (c d whole : ClassExpr) (operands : List ClassExpr) → said ≡ body.Equiv c d → (whole ≡ c) ⊎ (whole ≡ d) → group_operands group whole ≡ Some operands → Rises expr_text operands × (0 < length operands)
 
-  all_sides : (qualifiers : List Qualifier) (values : List Value) → 0 < length values → flat_map (λ (clause : Clause). map side_of_qualifier clause.qualifiers) (group_clauses group qualifiers values) ≡ map side_of_qualifier qualifiers
+  all_sides : (qualifiers : List Qualifier) (values : List Value) → 0 < length values → flat_map (λ (clause : Clause). map side_of_qualifier clause.qualifiers) (plain_group_clauses group qualifiers values) ≡ map side_of_qualifier qualifiers
   all_sides qualifiers [] some = absurd (omega arith)
   all_sides qualifiers (v ∷ values) some = ap (λ more. map side_of_qualifier qualifiers ++ more) (none_more values) ∙ append-nil (map side_of_qualifier qualifiers)
     where
@@ -275,12 +276,12 @@ module _ (reading : Reading) (writing : Writing) (agree : Agree reading writing)
       (cases_Bool (is_class x c))
 
   pub group_reads_back : (x : List ℕ) (c d : ClassExpr) (sides : List Side) (clauses : List Clause) → in_order (expr_text c) (expr_text d) ≡ true → IsRising (body.Equiv c d) → Rises side_text sides
-      → group_in_body writing x group sides (body.Equiv c d) ≡ Some clauses → plain_group reading x group clauses ≡ Some (record { body = body.Equiv c d; sides = sides })
+      → plain_group_in_body writing x group sides (body.Equiv c d) ≡ Some clauses → plain_group reading x group clauses ≡ Some (record { body = body.Equiv c d; sides = sides })
   group_reads_back x c d sides clauses ordered rising rises is =
-      let qs = option_and_then_some (λ qualifiers. option_and_then (clauses_with writing group qualifiers) (other_expr x c d)) (qualifiers_of sides) clauses is in
-      let whole = option_and_then_some (clauses_with writing group qs.0) (other_expr x c d) clauses qs.2 in
-      let operands = option_and_then_some (λ operands. option_map (λ values. group_clauses group qs.0 (sorted_by value_text values)) (each_some (operand_value writing group) operands)) (group_operands group whole.0) clauses whole.2 in
-      let values = option_map_some (λ values. group_clauses group qs.0 (sorted_by value_text values)) (each_some (operand_value writing group) operands.0) clauses operands.2 in
+      let qs = option_and_then_some (λ qualifiers. option_and_then (plain_clauses_with writing group qualifiers) (other_expr x c d)) (qualifiers_of sides) clauses is in
+      let whole = option_and_then_some (plain_clauses_with writing group qs.0) (other_expr x c d) clauses qs.2 in
+      let operands = option_and_then_some (λ operands. option_map (λ values. plain_group_clauses group qs.0 (sorted_by value_text values)) (each_some (operand_value writing group) operands)) (group_operands group whole.0) clauses whole.2 in
+      let values = option_map_some (λ values. plain_group_clauses group qs.0 (sorted_by value_text values)) (each_some (operand_value writing group) operands.0) clauses operands.2 in
       let sorted = sorted_by value_text values.0 in
       let read = operands_read reading writing agree group operands.0 values.0 values.1 in
       let proper = rising.rising c d whole.0 operands.0 refl (whole_is x c d whole.0 whole.1) operands.1 in
@@ -293,7 +294,7 @@ module _ (reading : Reading) (writing : Writing) (agree : Agree reading writing)
       ap (λ o. expr_pair (class_named x) (group_expr group o)) ops ∙ ap (expr_pair (class_named x)) same_whole ∙ pair_of_group x c d whole.0 whole.1 ordered apart in
       let sides_are = ap sorted_sides (all_sides qs.0 sorted some) ∙ same_sides sides [] sides qs.0 rises (Splits-nothing sides) qs.1 in
       subst (λ cs. plain_group reading x group cs ≡ Some (record { body = body.Equiv c d; sides = sides })) values.2
-      (ap (option_map (λ found. let a : Axiom = record { body = expr_pair (class_named x) (group_expr group (sorted_by expr_text found)); sides = sorted_sides (flat_map (λ (clause : Clause). map side_of_qualifier clause.qualifiers) (group_clauses group qs.0 sorted)) } in a)) each
+      (ap (option_map (λ found. let a : Axiom = record { body = expr_pair (class_named x) (group_expr group (sorted_by expr_text found)); sides = sorted_sides (flat_map (λ (clause : Clause). map side_of_qualifier clause.qualifiers) (plain_group_clauses group qs.0 sorted)) } in a)) each
       ∙ (λ i. Some (record { body = said i; sides = sides_are i })))
 
 -- ---- any list with the clauses of a group
@@ -323,19 +324,19 @@ same_flat_map f xs ys same c = (
 
 module _ (reading : Reading) (writing : Writing) (agree : Agree reading writing) (group : Group) where
   pub group_reads_set : (x : List ℕ) (c d : ClassExpr) (sides : List Side) (clauses others : List Clause) → in_order (expr_text c) (expr_text d) ≡ true → IsRising reading writing agree group (body.Equiv c d) → Rises side_text sides
-      → group_in_body writing x group sides (body.Equiv c d) ≡ Some clauses → SameMembers others clauses → plain_group reading x group others ≡ Some (record { body = body.Equiv c d; sides = sides })
+      → plain_group_in_body writing x group sides (body.Equiv c d) ≡ Some clauses → SameMembers others clauses → plain_group reading x group others ≡ Some (record { body = body.Equiv c d; sides = sides })
   group_reads_set x c d sides clauses others ordered rising rises is same =
-      let qs = option_and_then_some (λ qualifiers. option_and_then (clauses_with writing group qualifiers) (other_expr x c d)) (qualifiers_of sides) clauses is in
-      let whole = option_and_then_some (clauses_with writing group qs.0) (other_expr x c d) clauses qs.2 in
-      let operands = option_and_then_some (λ operands. option_map (λ values. group_clauses group qs.0 (sorted_by value_text values)) (each_some (operand_value writing group) operands)) (group_operands group whole.0) clauses whole.2 in
-      let values = option_map_some (λ values. group_clauses group qs.0 (sorted_by value_text values)) (each_some (operand_value writing group) operands.0) clauses operands.2 in
+      let qs = option_and_then_some (λ qualifiers. option_and_then (plain_clauses_with writing group qualifiers) (other_expr x c d)) (qualifiers_of sides) clauses is in
+      let whole = option_and_then_some (plain_clauses_with writing group qs.0) (other_expr x c d) clauses qs.2 in
+      let operands = option_and_then_some (λ operands. option_map (λ values. plain_group_clauses group qs.0 (sorted_by value_text values)) (each_some (operand_value writing group) operands)) (group_operands group whole.0) clauses whole.2 in
+      let values = option_map_some (λ values. plain_group_clauses group qs.0 (sorted_by value_text values)) (each_some (operand_value writing group) operands.0) clauses operands.2 in
       let sorted = sorted_by value_text values.0 in
       let read = operands_read reading writing agree group operands.0 values.0 values.1 in
       let proper = rising.rising c d whole.0 operands.0 refl (whole_is reading writing agree group x c d whole.0 whole.1) operands.1 in
       let some = some_member reading writing agree group operands.0 sorted read.0 proper.1 read.1 read.2 in
       let each = read_clauses reading writing agree group qs.0 sorted ∙ read.1 in
-      let members : SameMembers others (group_clauses group qs.0 sorted) = subst (λ cs. SameMembers others cs) (sym values.2) same in
-      let again = each_some-set (λ (clause : Clause). operand_plainly reading group clause.value) others (group_clauses group qs.0 sorted) read.0 members each in
+      let members : SameMembers others (plain_group_clauses group qs.0 sorted) = subst (λ cs. SameMembers others cs) (sym values.2) same in
+      let again = each_some-set (λ (clause : Clause). operand_plainly reading group clause.value) others (plain_group_clauses group qs.0 sorted) read.0 members each in
       let same_operands : SameMembers again.0 operands.0 = λ e. ((λ h. (read.2 e).0 ((again.2 e).0 h)), (λ h. (again.2 e).1 ((read.2 e).1 h))) in
       let ops : sorted_by expr_text again.0 ≡ operands.0 = sorted_by-is expr_text again.0 operands.0 proper.0 same_operands in
       let same_whole = whole_of group whole.0 operands.0 operands.1 in
@@ -343,7 +344,7 @@ module _ (reading : Reading) (writing : Writing) (agree : Agree reading writing)
       let said : expr_pair (class_named x) (group_expr group (sorted_by expr_text again.0)) ≡ body.Equiv c d =
       ap (λ o. expr_pair (class_named x) (group_expr group o)) ops ∙ ap (expr_pair (class_named x)) same_whole ∙ pair_of_group x c d whole.0 whole.1 ordered apart in
       let of_clause = λ (clause : Clause). map side_of_qualifier clause.qualifiers in
-      let flat = same_flat_map of_clause others (group_clauses group qs.0 sorted) members in
+      let flat = same_flat_map of_clause others (plain_group_clauses group qs.0 sorted) members in
       let told = Rattle.obo_notes.proofs.NoteLaws.same_qualifiers sides qs.0 qs.1 in
       let all = all_sides reading writing agree group qs.0 sorted some in
       let sides_are : sorted_sides (flat_map of_clause others) ≡ sides = sorted_by-is side_text (flat_map of_clause others) sides rises (λ side. (
@@ -355,16 +356,16 @@ module _ (reading : Reading) (writing : Writing) (agree : Agree reading writing)
 
   -- a group has a clause
   pub group_has_clause : (x : List ℕ) (c d : ClassExpr) (sides : List Side) (clauses : List Clause) → IsRising reading writing agree group (body.Equiv c d)
-      → group_in_body writing x group sides (body.Equiv c d) ≡ Some clauses → (clause : Clause) × In clause clauses
+      → plain_group_in_body writing x group sides (body.Equiv c d) ≡ Some clauses → (clause : Clause) × In clause clauses
   group_has_clause x c d sides clauses rising is =
-      let qs = option_and_then_some (λ qualifiers. option_and_then (clauses_with writing group qualifiers) (other_expr x c d)) (qualifiers_of sides) clauses is in
-      let whole = option_and_then_some (clauses_with writing group qs.0) (other_expr x c d) clauses qs.2 in
-      let operands = option_and_then_some (λ operands. option_map (λ values. group_clauses group qs.0 (sorted_by value_text values)) (each_some (operand_value writing group) operands)) (group_operands group whole.0) clauses whole.2 in
-      let values = option_map_some (λ values. group_clauses group qs.0 (sorted_by value_text values)) (each_some (operand_value writing group) operands.0) clauses operands.2 in
+      let qs = option_and_then_some (λ qualifiers. option_and_then (plain_clauses_with writing group qualifiers) (other_expr x c d)) (qualifiers_of sides) clauses is in
+      let whole = option_and_then_some (plain_clauses_with writing group qs.0) (other_expr x c d) clauses qs.2 in
+      let operands = option_and_then_some (λ operands. option_map (λ values. plain_group_clauses group qs.0 (sorted_by value_text values)) (each_some (operand_value writing group) operands)) (group_operands group whole.0) clauses whole.2 in
+      let values = option_map_some (λ values. plain_group_clauses group qs.0 (sorted_by value_text values)) (each_some (operand_value writing group) operands.0) clauses operands.2 in
       let read = operands_read reading writing agree group operands.0 values.0 values.1 in
       let proper = rising.rising c d whole.0 operands.0 refl (whole_is reading writing agree group x c d whole.0 whole.1) operands.1 in
       subst (λ cs. (clause : Clause) × In clause cs) values.2 (first qs.0 (sorted_by value_text values.0) (some_member reading writing agree group operands.0 (sorted_by value_text values.0) read.0 proper.1 read.1 read.2))
     where
-      first : (qs : List Qualifier) (vs : List Value) → 0 < length vs → (clause : Clause) × In clause (group_clauses group qs vs)
+      first : (qs : List Qualifier) (vs : List Value) → 0 < length vs → (clause : Clause) × In clause (plain_group_clauses group qs vs)
       first qs [] some = absurd (omega arith)
       first qs (v ∷ vs) some = (record { tag = group_tag group; value = v; qualifiers = qs }, inl refl)

@@ -22,8 +22,10 @@ use Rattle.text_sets.proofs.SetLemmas.{In-from_map}
 use Rattle.obo_notes.specs.Context.{Agree, Reading, Writing}
 use Rattle.obo_notes.specs.Notes.{qualifiers_of}
 use Rattle.obo_statements.specs.Extras.{extras_of}
-use Rattle.obo_statements.specs.Groups.{Group, clauses_with, group_clauses, group_in_body, group_meaning, group_operands, group_spelling, group_tag, operand_value, other_expr}
+use Rattle.obo_statements.specs.Groups.{Group, group_meaning, group_operands, group_spelling, group_tag, operand_value, other_expr}
+use Rattle.obo_statements.specs.inner.PlainGroups.{plain_clauses_with, plain_group_clauses, plain_group_in_body}
 use Rattle.obo_statements.proofs.GroupLaws.{IsRising, group_has_clause, group_reads_set}
+use Rattle.obo_statements.proofs.PlainGroups.{group_is_spelled_plainly}
 use Rattle.obo_statements.proofs.PlainMeaning.{group_is_plain, no_extras, no_reserved}
 use Rattle.obo_statements.proofs.Rising.{group_rises}
 
@@ -36,7 +38,7 @@ pair_in_order c d is =
 
 -- ---- the clauses have no qualifiers with a meaning of their own
 
-clauses_free : (group : Group) (qs : List Qualifier) (values : List Value) → extras_of qs ≡ [] → (clause : Clause) → In clause (group_clauses group qs values) → extras_of clause.qualifiers ≡ []
+clauses_free : (group : Group) (qs : List Qualifier) (values : List Value) → extras_of qs ≡ [] → (clause : Clause) → In clause (plain_group_clauses group qs values) → extras_of clause.qualifiers ≡ []
 clauses_free group qs [] free clause here = absurd here
 clauses_free group qs (one ∷ values) free clause here =
     ⊎_elim
@@ -46,22 +48,21 @@ clauses_free group qs (one ∷ values) free clause here =
     subst (λ (c : Clause). extras_of c.qualifiers ≡ []) v.2 refl)
     here
 
-group_free : (writing : Writing) (x : List ℕ) (group : Group) (c d : ClassExpr) (sides : List Side) (clauses : List Clause) → group_in_body writing x group sides (body.Equiv c d) ≡ Some clauses
+group_free : (writing : Writing) (x : List ℕ) (group : Group) (c d : ClassExpr) (sides : List Side) (clauses : List Clause) → plain_group_in_body writing x group sides (body.Equiv c d) ≡ Some clauses
     → (clause : Clause) → In clause clauses → extras_of clause.qualifiers ≡ []
 group_free writing x group c d sides clauses is clause here =
-    let qs = option_and_then_some (λ qualifiers. option_and_then (clauses_with writing group qualifiers) (other_expr x c d)) (qualifiers_of sides) clauses is in
-    let whole = option_and_then_some (clauses_with writing group qs.0) (other_expr x c d) clauses qs.2 in
-    let operands = option_and_then_some (λ operands. option_map (λ values. group_clauses group qs.0 (sorted_by value_text values)) (each_some (operand_value writing group) operands)) (group_operands group whole.0) clauses whole.2 in
-    let values = option_map_some (λ values. group_clauses group qs.0 (sorted_by value_text values)) (each_some (operand_value writing group) operands.0) clauses operands.2 in
+    let qs = option_and_then_some (λ qualifiers. option_and_then (plain_clauses_with writing group qualifiers) (other_expr x c d)) (qualifiers_of sides) clauses is in
+    let whole = option_and_then_some (plain_clauses_with writing group qs.0) (other_expr x c d) clauses qs.2 in
+    let operands = option_and_then_some (λ operands. option_map (λ values. plain_group_clauses group qs.0 (sorted_by value_text values)) (each_some (operand_value writing group) operands)) (group_operands group whole.0) clauses whole.2 in
+    let values = option_map_some (λ values. plain_group_clauses group qs.0 (sorted_by value_text values)) (each_some (operand_value writing group) operands.0) clauses operands.2 in
     clauses_free group qs.0 (sorted_by value_text values.0) (no_extras qs.0 (no_reserved sides qs.0 qs.1)) clause (subst (In clause) (sym values.2) here)
 
 -- ---- a group is of two expressions that stand for each other
 
 pub group_equates : (writing : Writing) (x : List ℕ) (group : Group) (a : Axiom) (clauses : List Clause) → group_spelling writing x group a ≡ Some clauses → (c : ClassExpr) × (d : ClassExpr) × (a.body ≡ body.Equiv c d)
-unfolding group_spelling
-group_equates writing x group a clauses is = by_body a.body is
+group_equates writing x group a clauses is = by_body a.body (sym (group_is_spelled_plainly writing x group a) ∙ is)
   where
-    by_body : (said : Body) → group_in_body writing x group a.sides said ≡ Some clauses → (c : ClassExpr) × (d : ClassExpr) × (said ≡ body.Equiv c d)
+    by_body : (said : Body) → plain_group_in_body writing x group a.sides said ≡ Some clauses → (c : ClassExpr) × (d : ClassExpr) × (said ≡ body.Equiv c d)
     by_body (body.Equiv c d) is = (c, d, refl)
     by_body _ is = absurd (none-some clauses is)
 
@@ -91,10 +92,9 @@ module _ (reading : Reading) (writing : Writing) (agree : Agree reading writing)
   -- any list with the clauses of a group says its axiom, and there is a clause
   pub group_reads_back : (x : List ℕ) (a : Axiom) (clauses others : List Clause) → is_proper_body a.body ≡ true → Rises side_text a.sides → group_spelling writing x group a ≡ Some clauses → SameMembers others clauses
       → (group_meaning reading x group others ≡ Some a) × ((c : Clause) × In c clauses)
-  unfolding group_spelling
-  group_reads_back x a clauses others proper rises is same = by_body a.body a.sides proper rises is
+  group_reads_back x a clauses others proper rises is same = by_body a.body a.sides proper rises (sym (group_is_spelled_plainly writing x group a) ∙ is)
     where
-      by_body : (said : Body) (sides : List Side) → is_proper_body said ≡ true → Rises side_text sides → group_in_body writing x group sides said ≡ Some clauses
+      by_body : (said : Body) (sides : List Side) → is_proper_body said ≡ true → Rises side_text sides → plain_group_in_body writing x group sides said ≡ Some clauses
           → (group_meaning reading x group others ≡ Some (record { body = said; sides = sides })) × ((c : Clause) × In c clauses)
       by_body (body.Equiv c d) sides proper rises is = (
         group_is_plain reading x group others (λ clause here. group_free writing x group c d sides clauses is clause ((same clause).0 here))

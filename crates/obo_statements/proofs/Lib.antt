@@ -1,8 +1,10 @@
 pub mod GroupClauses
 pub mod GroupLaws
+pub mod GroupOrder
 pub mod GroupsBack
 pub mod MeaningLoops
 pub mod MeaningTexts
+pub mod PlainGroups
 pub mod PlainMeaning
 pub mod PrintedLists
 pub mod Rising

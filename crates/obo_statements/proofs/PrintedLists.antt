@@ -30,9 +30,11 @@ use Rattle.obo_notes.specs.Context.{Agree, Reading, Writing}
 use Rattle.obo_notes.specs.Keys.{qualifier_of}
 use Rattle.obo_notes.specs.Laws.{IsInPrintedOrder, xrefs_in}
 use Rattle.obo_notes.specs.Notes.{qualifiers_of}
-use Rattle.obo_statements.specs.Groups.{Group, clauses_with, group_clauses, group_in_body, group_operands, group_spelling, group_tag, intersection, operand_value, other_expr, union}
+use Rattle.obo_statements.specs.Groups.{Group, group_operands, group_spelling, group_tag, intersection, operand_value, other_expr, union}
+use Rattle.obo_statements.specs.inner.PlainGroups.{plain_clauses_with, plain_group_clauses, plain_group_in_body}
 use Rattle.obo_statements.specs.Statements.{StatementRow, statement_spelling, statements_of}
 use Rattle.obo_statements.specs.Values.{value_plainly}
+use Rattle.obo_statements.proofs.PlainGroups.{group_is_spelled_plainly}
 use Rattle.obo_statements.proofs.PlainMeaning.{plain_by, spelling_is_plain}
 use Rattle.obo_statements.proofs.SpelledFits.{spelled_group_fits, spelled_statement_fits}
 use Rattle.obo_statements.proofs.StatementsBack.{passes_in}
@@ -94,7 +96,7 @@ module _ (reading : Reading) (writing : Writing) (agree : Agree reading writing)
     tag : c.tag ≡ group_tag group
     rises : Rises qualifier_text c.qualifiers
 
-  clauses_listed : (group : Group) (qs : List Qualifier) (values : List Value) → Rises qualifier_text qs → (c : Clause) → In c (group_clauses group qs values) → IsListed group c
+  clauses_listed : (group : Group) (qs : List Qualifier) (values : List Value) → Rises qualifier_text qs → (c : Clause) → In c (plain_group_clauses group qs values) → IsListed group c
   clauses_listed group qs [] rise c here = absurd here
   clauses_listed group qs (one ∷ values) rise c here =
       ⊎_elim
@@ -105,16 +107,15 @@ module _ (reading : Reading) (writing : Writing) (agree : Agree reading writing)
       here
 
   pub group_in_order : (group : Group) (a : Axiom) (clauses : List Clause) → group_spelling writing x group a ≡ Some clauses → (c : Clause) → In c clauses → IsInPrintedOrder c
-  unfolding group_spelling
   group_in_order group a clauses is c here =
-      let listed = by_body a.body is in
+      let listed = by_body a.body (sym (group_is_spelled_plainly writing x group a) ∙ is) in
       fits_in_order Term c (spelled_group_fits reading writing agree x group a clauses is c here) (ap (λ t. has_list (shape_at Term false t)) listed.tag ∙ group_lists_none group) listed.rises
     where
-      by_body : (said : Body) → group_in_body writing x group a.sides said ≡ Some clauses → IsListed group c
+      by_body : (said : Body) → plain_group_in_body writing x group a.sides said ≡ Some clauses → IsListed group c
       by_body (body.Equiv p q) is =
-          let qs = option_and_then_some (λ qualifiers. option_and_then (clauses_with writing group qualifiers) (other_expr x p q)) (qualifiers_of a.sides) clauses is in
-          let whole = option_and_then_some (clauses_with writing group qs.0) (other_expr x p q) clauses qs.2 in
-          let operands = option_and_then_some (λ operands. option_map (λ values. group_clauses group qs.0 (sorted_by value_text values)) (each_some (operand_value writing group) operands)) (group_operands group whole.0) clauses whole.2 in
-          let values = option_map_some (λ values. group_clauses group qs.0 (sorted_by value_text values)) (each_some (operand_value writing group) operands.0) clauses operands.2 in
+          let qs = option_and_then_some (λ qualifiers. option_and_then (plain_clauses_with writing group qualifiers) (other_expr x p q)) (qualifiers_of a.sides) clauses is in
+          let whole = option_and_then_some (plain_clauses_with writing group qs.0) (other_expr x p q) clauses qs.2 in
+          let operands = option_and_then_some (λ operands. option_map (λ values. plain_group_clauses group qs.0 (sorted_by value_text values)) (each_some (operand_value writing group) operands)) (group_operands group whole.0) clauses whole.2 in
+          let values = option_map_some (λ values. plain_group_clauses group qs.0 (sorted_by value_text values)) (each_some (operand_value writing group) operands.0) clauses operands.2 in
           clauses_listed group qs.0 (sorted_by value_text values.0) (qualifiers_rise a.sides qs.0 qs.1) c (subst (In c) (sym values.2) here)
       by_body _ is = absurd (none-some clauses is)

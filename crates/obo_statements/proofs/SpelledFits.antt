@@ -41,9 +41,11 @@ use Rattle.obo_statements.specs.Classes.{class_id}
 use Rattle.obo_statements.specs.Restrictions.{restriction_words}
 use Rattle.obo_statements.specs.Values.{Statement, asymmetric, functional, inverse_functional, other_class, other_of, reflexive, symmetric, transitive, value_plainly}
 use Rattle.obo_statements.specs.Statements.{StatementRow, statement_spelling, statements_of}
-use Rattle.obo_statements.specs.Groups.{Group, clauses_with, group_clauses, group_in_body, group_operands, group_spelling, group_tag, intersection, operand_value, other_expr, union}
+use Rattle.obo_statements.specs.Groups.{Group, group_operands, group_spelling, group_tag, intersection, operand_value, other_expr, union}
+use Rattle.obo_statements.specs.inner.PlainGroups.{plain_clauses_with, plain_group_clauses, plain_group_in_body}
 use Rattle.obo_notes.proofs.Guards.{where_true_some}
 use Rattle.obo_notes.proofs.NoteLaws.{each_fits}
+use Rattle.obo_statements.proofs.PlainGroups.{group_is_spelled_plainly}
 use Rattle.obo_statements.proofs.PlainMeaning.{plain_by, spelling_is_plain}
 use Rattle.obo_statements.proofs.StatementLaws.{class_id-readable, words_back}
 use Rattle.obo_notes.proofs.XrefLists.{all_from_in}
@@ -226,7 +228,7 @@ module _ (reading : Reading) (writing : Writing) (agree : Agree reading writing)
       group_behind intersection all = all
       group_behind union all = all
 
-  clauses_fit : (g : Group) (qs : List Qualifier) (values : List Value) → All FitsQualifier qs → ((v : Value) → In v values → FitsShape (group_shape g) v) → (c : Clause) → In c (group_clauses g qs values) → Fits Term false c
+  clauses_fit : (g : Group) (qs : List Qualifier) (values : List Value) → All FitsQualifier qs → ((v : Value) → In v values → FitsShape (group_shape g) v) → (c : Clause) → In c (plain_group_clauses g qs values) → Fits Term false c
   clauses_fit g qs [] all each c here = absurd here
   clauses_fit g qs (v ∷ values) all each c here =
       ⊎_elim
@@ -237,15 +239,14 @@ module _ (reading : Reading) (writing : Writing) (agree : Agree reading writing)
 
   -- the clauses of a group are such that lines spell them
   pub spelled_group_fits : (g : Group) (a : Axiom) (cs : List Clause) → group_spelling writing x g a ≡ Some cs → (c : Clause) → In c cs → Fits Term false c
-  unfolding group_spelling
-  spelled_group_fits g a cs is c here = by_body a.body is
+  spelled_group_fits g a cs is c here = by_body a.body (sym (group_is_spelled_plainly writing x g a) ∙ is)
     where
-      by_body : (said : Body) → group_in_body writing x g a.sides said ≡ Some cs → Fits Term false c
+      by_body : (said : Body) → plain_group_in_body writing x g a.sides said ≡ Some cs → Fits Term false c
       by_body (body.Equiv p q) is =
-          let qs = option_and_then_some (λ qualifiers. option_and_then (clauses_with writing g qualifiers) (other_expr x p q)) (qualifiers_of a.sides) cs is in
-          let whole = option_and_then_some (clauses_with writing g qs.0) (other_expr x p q) cs qs.2 in
-          let operands = option_and_then_some (λ operands. option_map (λ values. group_clauses g qs.0 (sorted_by value_text values)) (each_some (operand_value writing g) operands)) (group_operands g whole.0) cs whole.2 in
-          let values = option_map_some (λ values. group_clauses g qs.0 (sorted_by value_text values)) (each_some (operand_value writing g) operands.0) cs operands.2 in
+          let qs = option_and_then_some (λ qualifiers. option_and_then (plain_clauses_with writing g qualifiers) (other_expr x p q)) (qualifiers_of a.sides) cs is in
+          let whole = option_and_then_some (plain_clauses_with writing g qs.0) (other_expr x p q) cs qs.2 in
+          let operands = option_and_then_some (λ operands. option_map (λ values. plain_group_clauses g qs.0 (sorted_by value_text values)) (each_some (operand_value writing g) operands)) (group_operands g whole.0) cs whole.2 in
+          let values = option_map_some (λ values. plain_group_clauses g qs.0 (sorted_by value_text values)) (each_some (operand_value writing g) operands.0) cs operands.2 in
           clauses_fit g qs.0 (sorted_by value_text values.0) (qualifiers_fit a.sides qs.0 qs.1)
           (λ v among. let e = each_some-parts (operand_value writing g) operands.0 values.0 values.1 v (sorted_by-only value_text values.0 v among) in operand_fits g e.0 v e.2)
           c (subst (In c) (sym values.2) here)

@@ -8,6 +8,7 @@ ghost use Rattle.obo_notes.specs.Context.{writing_in};
 ghost use Rattle.obo_notes.specs.Notes as spec_notes;
 ghost use Rattle.obo_statements.specs.Groups as spec;
 ghost use Rattle.obo_statements.specs.Groups.{group_meant};
+ghost use Rattle.obo_statements.specs.inner.PlainGroups as plain;
 ghost use Rattle.obo_statements.specs.inner.Spelled.{plain_clause, sorted_values};
 
 use crate::Group;
@@ -22,7 +23,7 @@ use std::alloc::Global;
 /// The clauses of a Term with this IRI that say the axiom together, in an ontology of this name, in printed order; the
 /// first has its annotations as qualifiers. `None` exactly where the axiom is no such group of this class, or a part of it
 /// has no form. It takes time in proportion to the axiom, but for the sorts of values and qualifiers.
-#[tactic(auto, unfolding(crate::specs::Groups::group_spelling))]
+#[tactic(auto, using(crate::proofs::PlainGroups::group_is_spelled_plainly))]
 pub fn clauses_of_group(
     alloc: Global,
     space: &Bytes,
@@ -32,6 +33,20 @@ pub fn clauses_of_group(
 ) -> Result<Option<Items<Clause>>, NoMemory>
     ensures exact { IfOk result (λ clauses. clauses ≡
         spec.group_spelling (writing_in space.now) x.now (group_meant group) stated.now) }
+{
+    clauses_by_values(alloc, space, x, group, stated)
+}
+
+/// The same, by the values of the operands: no operand has qualifiers with a meaning of their own.
+fn clauses_by_values(
+    alloc: Global,
+    space: &Bytes,
+    x: &Iri,
+    group: Group,
+    stated: &Axiom,
+) -> Result<Option<Items<Clause>>, NoMemory>
+    ensures { IfOk result (λ clauses. clauses ≡
+        plain.plain_group_in_body (writing_in space.now) x.now (group_meant group) stated.now.sides stated.now.body) }
 {
     match &stated.body {
         Body::Equiv(one, other) => match other_expr(x, one, other) {
@@ -52,7 +67,7 @@ fn with_sides(
     stated: &Axiom,
 ) -> Result<Option<Items<Clause>>, NoMemory>
     ensures { IfOk result (λ clauses. clauses ≡
-        option_and_then (λ qualifiers. spec.clauses_with (writing_in space.now) (group_meant group) qualifiers whole.now)
+        option_and_then (λ qualifiers. plain.plain_clauses_with (writing_in space.now) (group_meant group) qualifiers whole.now)
         (spec_notes.qualifiers_of stated.now.sides)) }
 {
     let Some(qualifiers) = qualifiers_of(alloc, stated.sides.as_slice())? else {
@@ -152,7 +167,7 @@ fn clauses(
     qualifiers: Items<Qualifier>,
     values: Items<Value>,
 ) -> Result<Items<Clause>, NoMemory>
-    ensures { IfOk result (λ clauses. clauses ≡ spec.group_clauses (group_meant group) qualifiers values) }
+    ensures { IfOk result (λ clauses. clauses ≡ plain.plain_group_clauses (group_meant group) qualifiers values) }
 {
     let mut clauses = plain_clauses(alloc, group, values.into_vec())?;
     if let Some(first) = clauses.first_mut() {

@@ -2,6 +2,7 @@
 //! nothing.
 ghost use Rattle.obo_statements.specs.Laws.{
   GroupFitsIn,
+  GroupInOrderIn,
   GroupReadsBackIn,
   StatementFitsIn,
   StatementReadsBackIn,
@@ -27,4 +28,10 @@ pub fn group_reads_back(space: &Bytes)
 /// The clauses of a group are such that lines spell them.
 pub fn spelled_groups_fit(space: &Bytes)
     ensures { GroupFitsIn space.now }
+{}
+
+/// The clauses of a group stand in the order of their printed values, and of equal ones in that of the printed blocks of
+/// their qualifiers with a meaning of their own; each once.
+pub fn groups_are_in_order(space: &Bytes)
+    ensures { GroupInOrderIn space.now }
 {}

@@ -20,7 +20,8 @@ pub use group::Group;
 pub use group_meaning::group_of;
 pub use group_spelling::clauses_of_group;
 pub use laws::{
-    group_reads_back, spelled_groups_fit, spelled_statements_fit, statement_reads_back,
+    group_reads_back, groups_are_in_order, spelled_groups_fit, spelled_statements_fit,
+    statement_reads_back,
 };
 pub use meaning::statement_of;
 pub use spelling::clause_of_statement;

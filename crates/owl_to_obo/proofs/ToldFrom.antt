@@ -63,7 +63,9 @@ use Rattle.obo_notes.proofs.Guards.{same_bytes, where_true_some}
 use Rattle.obo_statements.specs.Anchors.{anchors, class_anchor, class_entity}
 use Rattle.owl_axioms.specs.Classes.{class_named}
 use Rattle.obo_statements.specs.Classes.{is_class}
-use Rattle.obo_statements.specs.Groups.{clauses_with, group_clauses, group_expr, group_in_body, group_meaning, group_operands, operand_value, other_expr}
+use Rattle.obo_statements.specs.Groups.{group_expr, group_meaning, group_operands, operand_value, other_expr}
+use Rattle.obo_statements.specs.inner.PlainGroups.{plain_clauses_with, plain_group_clauses, plain_group_in_body}
+use Rattle.obo_statements.proofs.PlainGroups.{group_is_spelled_plainly}
 use Rattle.obo_statements.specs.Statements.{statement_spelling}
 use Rattle.obo_statements.proofs.GroupLaws.{whole_of}
 use Rattle.obo_statements.proofs.GroupsBack.{group_equates, group_reads_back}
@@ -139,11 +141,11 @@ no_anchor intersection operands = refl
 no_anchor union operands = refl
 
 -- the anchor of an axiom that is a group of the class
-anchored : (writing : Writing) (x : List ℕ) (group : Group) (c d : ClassExpr) (sides : List Side) (clauses : List Clause) → group_in_body writing x group sides (body.Equiv c d) ≡ Some clauses → (n : Name) → In n (class_anchor c ++ class_anchor d) → n ≡ class_entity x
+anchored : (writing : Writing) (x : List ℕ) (group : Group) (c d : ClassExpr) (sides : List Side) (clauses : List Clause) → plain_group_in_body writing x group sides (body.Equiv c d) ≡ Some clauses → (n : Name) → In n (class_anchor c ++ class_anchor d) → n ≡ class_entity x
 anchored writing x group c d sides clauses is n here =
-    let qs = option_and_then_some (λ qualifiers. option_and_then (clauses_with writing group qualifiers) (other_expr x c d)) (qualifiers_of sides) clauses is in
-    let whole = option_and_then_some (clauses_with writing group qs.0) (other_expr x c d) clauses qs.2 in
-    let operands = option_and_then_some (λ operands. option_map (λ values. group_clauses group qs.0 (sorted_by value_text values)) (each_some (operand_value writing group) operands)) (group_operands group whole.0) clauses whole.2 in
+    let qs = option_and_then_some (λ qualifiers. option_and_then (plain_clauses_with writing group qualifiers) (other_expr x c d)) (qualifiers_of sides) clauses is in
+    let whole = option_and_then_some (plain_clauses_with writing group qs.0) (other_expr x c d) clauses qs.2 in
+    let operands = option_and_then_some (λ operands. option_map (λ values. plain_group_clauses group qs.0 (sorted_by value_text values)) (each_some (operand_value writing group) operands)) (group_operands group whole.0) clauses whole.2 in
     let none : class_anchor whole.0 ≡ [] = ap class_anchor (sym (whole_of group whole.0 operands.0 operands.1)) ∙ no_anchor group operands.0 in
     ⊎_elim
     (λ first.
@@ -256,7 +258,7 @@ module _ (name : Option (List ℕ)) (check : Bool) (entries : List Entry) (is : 
 
   -- the class of a group has a frame
   class_home : (x : List ℕ) (group : Group) (c d : ClassExpr) (sides : List Side) (clauses : List Clause) → let one : Axiom = record { body = body.Equiv c d; sides = sides } in
-      IsSome (clauses_for w declared one) → group_in_body w x group sides (body.Equiv c d) ≡ Some clauses → (home : Home) × (home_of w declared (body.Equiv c d) ≡ Some home) × (home.entity ≡ class_entity x) × (id_of x space ≡ Some home.id)
+      IsSome (clauses_for w declared one) → plain_group_in_body w x group sides (body.Equiv c d) ≡ Some clauses → (home : Home) × (home_of w declared (body.Equiv c d) ≡ Some home) × (home.entity ≡ class_entity x) × (id_of x space ≡ Some home.id)
   unfolding clauses_for axiom_spelled anchors
   class_home x group c d sides clauses formed spelled =
       ⊎_elim
@@ -279,14 +281,13 @@ module _ (name : Option (List ℕ)) (check : Bool) (entries : List Entry) (is : 
     text : given_one.text ≡ join_by printed (codes ", ") clauses
 
   has_group : (x : List ℕ) (group : Group) (one : Axiom) (clauses : List Clause) → In one (axioms_of entries) → group_spelling w x group one ≡ Some clauses → HasGroup x group one clauses
-  unfolding group_spelling
   has_group x group one clauses here spelled =
       let equates = group_equates w x group one clauses spelled in
       let e = entry_of_axiom one here in
       let formed : IsSome (clauses_for w declared one) = (let same = declared_same entries in subst (λ names. IsSome (clauses_for w names one)) same (is.formed one here)) in
       let home = class_home x group equates.0 equates.1 one.sides clauses
       (subst (λ (said : Body). IsSome (clauses_for w declared (record { body = said; sides = one.sides }))) equates.2 formed)
-      (subst (λ (said : Body). group_in_body w x group one.sides said ≡ Some clauses) equates.2 spelled) in
+      (subst (λ (said : Body). plain_group_in_body w x group one.sides said ≡ Some clauses) equates.2 (sym (group_is_spelled_plainly w x group one) ∙ spelled)) in
       let g : Given = record { frame = Term; id = home.0.id; iri = x; tag = group_tag group; text = join_by printed (codes ", ") clauses; origin = e.0.origin } in
       let at : home_of w declared e.0.«axiom».body ≡ Some home.0 = ap (λ (a : Axiom). home_of w declared a.body) e.2 ∙ ap (home_of w declared) equates.2 ∙ home.1 in
       let gives : group_given w declared e.0 group ≡ Some g =

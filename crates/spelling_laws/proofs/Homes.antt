@@ -33,7 +33,9 @@ use Rattle.obo_notes.proofs.Guards.{same_bytes, where_true_some}
 use Rattle.obo_statements.specs.Anchors.{anchors, class_anchor, class_entity, individual_entity, role_entity}
 use Rattle.obo_statements.specs.Classes.{as_id, class_iri, is_class}
 use Rattle.obo_statements.specs.Extras.{Worded, qualifiers_with}
-use Rattle.obo_statements.specs.Groups.{Group, clauses_with, group_expr, group_in_body, group_operands, group_spelling, intersection, other_expr, union}
+use Rattle.obo_statements.specs.Groups.{Group, group_expr, group_operands, group_spelling, intersection, other_expr, union}
+use Rattle.obo_statements.specs.inner.PlainGroups.{plain_clauses_with, plain_group_in_body}
+use Rattle.obo_statements.proofs.PlainGroups.{group_is_spelled_plainly}
 use Rattle.obo_statements.specs.Statements.{StatementRow, statement_by, statement_spelling, statements_of}
 use Rattle.obo_statements.specs.Values.{Character, Statement, asymmetric, disjoint_class, disjoint_role, functional, has_character, inverse_functional, inverse_role, other_class, other_of, reflexive, same_class, same_role, symmetric, transitive, value_plainly, value_stating}
 use Rattle.obo_statements.proofs.GroupLaws.{whole_of}
@@ -322,14 +324,14 @@ module _ (w : Writing) where
 
   -- a group has one anchor
   pub group_one : (x y z : Name) (g : Group) (a : Axiom) → IsSome (group_spelling w z.iri g a) → In x (anchors a.body) → In y (anchors a.body) → x ≡ y
-  unfolding group_spelling anchors
-  group_one x y z g a some = by_body a.body some
+  unfolding anchors
+  group_one x y z g a some = by_body a.body (subst (λ o. IsSome o) (group_is_spelled_plainly w z.iri g a) some)
     where
-      by_body : (said : Body) → IsSome (group_in_body w z.iri g a.sides said) → In x (anchors said) → In y (anchors said) → x ≡ y
+      by_body : (said : Body) → IsSome (plain_group_in_body w z.iri g a.sides said) → In x (anchors said) → In y (anchors said) → x ≡ y
       by_body (body.Equiv c d) some here there =
-          let cs = some_value (group_in_body w z.iri g a.sides (body.Equiv c d)) some in
-          let qs = option_and_then_some (λ qualifiers. option_and_then (clauses_with w g qualifiers) (other_expr z.iri c d)) (qualifiers_of a.sides) cs.0 cs.1 in
-          let whole = option_and_then_some (clauses_with w g qs.0) (other_expr z.iri c d) cs.0 qs.2 in
+          let cs = some_value (plain_group_in_body w z.iri g a.sides (body.Equiv c d)) some in
+          let qs = option_and_then_some (λ qualifiers. option_and_then (plain_clauses_with w g qualifiers) (other_expr z.iri c d)) (qualifiers_of a.sides) cs.0 cs.1 in
+          let whole = option_and_then_some (plain_clauses_with w g qs.0) (other_expr z.iri c d) cs.0 qs.2 in
           let ops = option_and_then_some _ (group_operands g whole.0) cs.0 whole.2 in
           let empty = whole_anchor g whole.0 ops.0 ops.1 in
           let is_of : (whole.0 ≡ d) ⊎ (whole.0 ≡ c) = ⊎_elim

@@ -25,6 +25,7 @@ use Rattle.obo_statements.specs.Anchors.{anchors, class_entity}
 use Rattle.obo_statements.specs.Classes.{as_id, class_id, class_iri, is_class}
 use Rattle.obo_statements.specs.Extras.{Worded, qualifiers_with, worded_plainly}
 use Rattle.obo_statements.specs.Groups.{intersection, operand_value}
+use Rattle.obo_statements.proofs.PlainGroups.{value_from_worded}
 use Rattle.obo_statements.specs.Restrictions.{restriction_words}
 use Rattle.obo_statements.specs.Statements.{StatementRow, says, statement_by, statement_spelling, statements_of}
 use Rattle.obo_statements.specs.Values.{below_class, restricted, value_plainly, value_stating}
@@ -113,7 +114,7 @@ inclusion_formed name axioms more spellable each one is =
       among = inl refl;
       known = is_declared_from (filter_map declared_in more) (class_entity is.class) (declared_grows axioms more each (class_entity is.class) is.declared);
       has = declared_has_id name axioms spellable (class_entity is.class) is.declared;
-      states = inl (states_inclusion w is.class is.super itself is.has);
+      states = inl (states_inclusion w is.class is.super itself (value_from_worded w intersection is.super is.has));
     })
 
 pub inclusions_keep_spelling : InclusionsKeepSpelling

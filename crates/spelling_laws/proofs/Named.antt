@@ -38,7 +38,9 @@ use Rattle.obo_notes.proofs.Guards.{same_bytes, where_true_some}
 use Rattle.obo_statements.specs.Anchors.{anchors, class_anchor, class_entity, individual_entity, role_entity}
 use Rattle.obo_statements.specs.Classes.{as_id, class_id, class_iri, is_class}
 use Rattle.obo_statements.specs.Extras.{Worded, qualifiers_with, worded_plainly}
-use Rattle.obo_statements.specs.Groups.{Group, clauses_with, group_clauses, group_in_body, group_operands, group_spelling, intersection, operand_value, operands_in, other_expr, union}
+use Rattle.obo_statements.specs.Groups.{Group, group_operands, group_spelling, intersection, operand_value, operands_in, other_expr, union}
+use Rattle.obo_statements.specs.inner.PlainGroups.{plain_clauses_with, plain_group_clauses, plain_group_in_body}
+use Rattle.obo_statements.proofs.PlainGroups.{group_is_spelled_plainly}
 use Rattle.obo_statements.specs.Restrictions.{restriction_words, words_of}
 use Rattle.obo_statements.specs.Statements.{statement_by, statement_spelling, statements_of}
 use Rattle.obo_statements.specs.Values.{Statement, below_class, disjoint_class, has_character, has_domain, has_range, member, other_class, other_of, restricted, same_class, value_plainly, value_stating}
@@ -147,10 +149,10 @@ module _ (w : Writing) where
   group_layer union (ClassExpr-F.Or parts) ops is each = layer_ids (ClassExpr-F.Or parts) (subst (λ os. HaveIds (flat_map (λ p. p) (map names_in os))) (sym (same_Some parts ops is)) (parts_ids ops each))
   group_layer _ _ ops is each = absurd (none-some ops is)
 
-  whole_ids : (g : Group) (qs : List Qualifier) (whole : ClassExpr) (cs : List Clause) → clauses_with w g qs whole ≡ Some cs → HaveIds (names_in whole)
+  whole_ids : (g : Group) (qs : List Qualifier) (whole : ClassExpr) (cs : List Clause) → plain_clauses_with w g qs whole ≡ Some cs → HaveIds (names_in whole)
   whole_ids g qs whole cs is =
-      let ops = option_and_then_some (λ operands. option_map (λ values. group_clauses g qs (sorted_by value_text values)) (each_some (operand_value w g) operands)) (group_operands g whole) cs is in
-      let values = option_map_some (λ values. group_clauses g qs (sorted_by value_text values)) (each_some (operand_value w g) ops.0) cs ops.2 in
+      let ops = option_and_then_some (λ operands. option_map (λ values. plain_group_clauses g qs (sorted_by value_text values)) (each_some (operand_value w g) operands)) (group_operands g whole) cs is in
+      let values = option_map_some (λ values. plain_group_clauses g qs (sorted_by value_text values)) (each_some (operand_value w g) ops.0) cs ops.2 in
       subst (λ e. HaveIds (names_in e)) (roll-out-ClassExpr whole)
       (group_layer g (out-ClassExpr whole) ops.0 ops.1
       (λ c here. let v = each_some-items (operand_value w g) ops.0 values.0 values.1 c here in operand_ids g c (some_from (operand_value w g c) v.0 v.2)))
@@ -238,15 +240,15 @@ module _ (w : Writing) where
       stated_ids x row.0.statement a.body is here has (some_from (value_plainly w x.iri row.0.statement a.body) value.0 value.1)
 
   at_group : (x : Name) (g : Group) (a : Axiom) → In x (anchors a.body) → IsSome (frame_id w x) → IsSome (group_spelling w x.iri g a) → HaveIds (body_names a.body)
-  unfolding group_spelling anchors body_names
-  at_group x g a here has some = by_body a.body here some
+  unfolding anchors body_names
+  at_group x g a here has some = by_body a.body here (subst (λ o. IsSome o) (group_is_spelled_plainly w x.iri g a) some)
     where
-      by_body : (said : Body) → In x (anchors said) → IsSome (group_in_body w x.iri g a.sides said) → HaveIds (body_names said)
+      by_body : (said : Body) → In x (anchors said) → IsSome (plain_group_in_body w x.iri g a.sides said) → HaveIds (body_names said)
       by_body (body.Equiv c d) here some =
           let own = pair_has c d x here has in
-          let cs = some_value (group_in_body w x.iri g a.sides (body.Equiv c d)) some in
-          let qs = option_and_then_some (λ qualifiers. option_and_then (clauses_with w g qualifiers) (other_expr x.iri c d)) (qualifiers_of a.sides) cs.0 cs.1 in
-          let whole = option_and_then_some (clauses_with w g qs.0) (other_expr x.iri c d) cs.0 qs.2 in
+          let cs = some_value (plain_group_in_body w x.iri g a.sides (body.Equiv c d)) some in
+          let qs = option_and_then_some (λ qualifiers. option_and_then (plain_clauses_with w g qualifiers) (other_expr x.iri c d)) (qualifiers_of a.sides) cs.0 cs.1 in
+          let whole = option_and_then_some (plain_clauses_with w g qs.0) (other_expr x.iri c d) cs.0 qs.2 in
           let other = whole_ids g qs.0 whole.0 cs.0 whole.2 in
           ⊎_elim
           (λ yes.

@@ -18,7 +18,9 @@ use Rattle.obo_notes.specs.Keys.{qualifier_of}
 use Rattle.obo_notes.specs.Notes.{qualifiers_of}
 use Rattle.obo_statements.specs.Classes.{as_id, class_id, class_iri, is_class}
 use Rattle.obo_statements.specs.Extras.{Worded, qualifiers_with, worded_plainly}
-use Rattle.obo_statements.specs.Groups.{Group, clauses_with, group_in_body, group_operands, group_spelling, intersection, operand_value, other_expr, union}
+use Rattle.obo_statements.specs.Groups.{Group, group_operands, group_spelling, intersection, operand_value, other_expr, union}
+use Rattle.obo_statements.specs.inner.PlainGroups.{plain_clauses_with, plain_group_in_body}
+use Rattle.obo_statements.proofs.PlainGroups.{group_is_spelled_plainly}
 use Rattle.obo_statements.specs.Restrictions.{restriction_words, words_of}
 use Rattle.obo_statements.specs.Statements.{StatementRow, statement_by, statement_spelling, statements_of}
 use Rattle.obo_statements.specs.Values.{Statement, asymmetric, below_class, below_role, chain, disjoint_class, disjoint_role, functional, has_character, has_domain, has_range, inverse_functional, inverse_role, member, other_class, other_of, over, reflexive, related, restricted, same_class, same_role, symmetric, transitive, value_plainly, value_stating}
@@ -91,17 +93,18 @@ module _ (one other : Writing) (alike : WriteAlike one other) where
   operand_alike union c = class_as_id c
   operand_alike intersection c = alike_or (as_id (class_id one c)) (restriction_words one c) (as_id (class_id other c)) (restriction_words other c) (class_as_id c) (words_alike c)
 
-  operands_alike : (group : Group) (qs : List Qualifier) (whole : ClassExpr) → Alike (clauses_with one group qs whole) (clauses_with other group qs whole)
+  operands_alike : (group : Group) (qs : List Qualifier) (whole : ClassExpr) → Alike (plain_clauses_with one group qs whole) (plain_clauses_with other group qs whole)
   operands_alike group qs whole =
       matches_behind (Any (List Clause) (List Clause)) _ _ (group_operands group whole)
       (λ operands. alike_map _ _ (each_some (operand_value one group) operands) (each_some (operand_value other group) operands) (alike_each (operand_value one group) (operand_value other group) operands (operand_alike group)))
 
   pub group_alike : (x : List ℕ) (group : Group) (a : Axiom) → Alike (group_spelling one x group a) (group_spelling other x group a)
-  unfolding group_spelling
-  group_alike x group a = by_body a.body
+  group_alike x group a =
+      subst (λ o. Alike o (group_spelling other x group a)) (sym (group_is_spelled_plainly one x group a))
+      (subst (λ o. Alike (plain_group_in_body one x group a.sides a.body) o) (sym (group_is_spelled_plainly other x group a)) (by_body a.body))
     where
-      by_body : (said : Body) → Alike (group_in_body one x group a.sides said) (group_in_body other x group a.sides said)
+      by_body : (said : Body) → Alike (plain_group_in_body one x group a.sides said) (plain_group_in_body other x group a.sides said)
       by_body (body.Equiv c d) =
           matches_behind (Any (List Clause) (List Clause)) _ _ (qualifiers_of a.sides)
-          (λ qs. matches_behind (Any (List Clause) (List Clause)) (clauses_with one group qs) (clauses_with other group qs) (other_expr x c d) (operands_alike group qs))
+          (λ qs. matches_behind (Any (List Clause) (List Clause)) (plain_clauses_with one group qs) (plain_clauses_with other group qs) (other_expr x c d) (operands_alike group qs))
       by_body _ = tt

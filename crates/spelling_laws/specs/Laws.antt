@@ -17,7 +17,7 @@ use Rattle.obo_frames.specs.Framed.{unlined}
 use Rattle.obo_frames.specs.Soundness.{IsSound}
 use Rattle.obo_frames.specs.declared.placed.Placed.{Placed}
 use Rattle.obo_statements.specs.Anchors.{anchors, class_entity}
-use Rattle.obo_statements.specs.Groups.{intersection, operand_value}
+use Rattle.obo_statements.specs.Groups.{intersection, operand_worded}
 use Rattle.obo_mapping.specs.Back.{IsSpellable, writing_of}
 use Rattle.obo_mapping.specs.Documents.{declared_in, name_of, owl}
 
@@ -80,7 +80,7 @@ pub record IsInclusion (name : Option (List ℕ)) (axioms : List Axiom) (one : A
   pub super : ClassExpr
   pub is : one ≡ record { body = body.Sub (expr.Class class) super; sides = [] }
   pub declared : In (class_entity class) (filter_map declared_in axioms)
-  pub has : IsSome (operand_value (writing_of name) intersection super)
+  pub has : IsSome (operand_worded (writing_of name) intersection super)
   pub proper : IsProper one
 
 -- what can be written stays so with such inclusions

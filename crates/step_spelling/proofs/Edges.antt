@@ -17,6 +17,7 @@ use Rattle.obo_notes.proofs.Guards.{same_bytes}
 use Rattle.obo_statements.specs.Anchors.{class_entity}
 use Rattle.obo_statements.specs.Classes.{as_id, class_id, class_iri}
 use Rattle.obo_statements.specs.Groups.{intersection, operand_value}
+use Rattle.obo_statements.proofs.PlainGroups.{worded_from_value}
 use Rattle.obo_statements.specs.Restrictions.{restriction_words}
 use Rattle.obo_mapping.specs.Back.{IsSpellable, writing_of}
 use Rattle.obo_mapping.specs.Documents.{declared_in}
@@ -57,7 +58,7 @@ new_edge name axioms spellable one is =
       super = expr.Class is.super;
       is = is.is;
       declared = is.declared;
-      has = class_has_value (writing_of name) is.super super.1 super.0;
+      has = worded_from_value (writing_of name) intersection (expr.Class is.super) (class_has_value (writing_of name) is.super super.1 super.0);
       proper = subst IsProper (sym is.is) (below_proper is.sub (expr.Class is.super) (proper_of_class is.sub ∙ sub) (proper_of_class is.super ∙ super.1));
     }
 

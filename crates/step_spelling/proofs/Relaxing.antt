@@ -35,7 +35,9 @@ use Rattle.obo_notes.proofs.Guards.{where_true_some}
 use Rattle.obo_statements.specs.Anchors.{anchors, class_anchor, class_entity}
 use Rattle.obo_statements.specs.Classes.{as_id, class_iri, is_class}
 use Rattle.obo_statements.specs.Extras.{Worded, qualifiers_with, worded_plainly}
-use Rattle.obo_statements.specs.Groups.{Group, clauses_with, group_clauses, group_expr, group_in_body, group_operands, group_spelling, intersection, operand_value, other_expr, union}
+use Rattle.obo_statements.specs.Groups.{Group, group_expr, group_operands, group_spelling, intersection, operand_value, other_expr, union}
+use Rattle.obo_statements.specs.inner.PlainGroups.{plain_clauses_with, plain_group_clauses, plain_group_in_body}
+use Rattle.obo_statements.proofs.PlainGroups.{group_is_spelled_plainly, worded_from_value}
 use Rattle.obo_statements.specs.Statements.{statement_by, statement_spelling, statements_of}
 use Rattle.obo_statements.specs.Values.{Statement, has_character, other_of, same_class, value_plainly, value_stating}
 use Rattle.obo_statements.proofs.GroupsBack.{pair_in_order}
@@ -106,38 +108,37 @@ module _ (w : Writing) (x : Name) where
 
   -- ---- the operands of a group that is spelled
 
-  operand_has : (g : Group) (qs : _) (ops : List ClassExpr) (cs : List Clause) → clauses_with w g qs (expr.And ops) ≡ Some cs → (operand : ClassExpr) → In operand ops → IsSome (operand_value w intersection operand)
+  operand_has : (g : Group) (qs : _) (ops : List ClassExpr) (cs : List Clause) → plain_clauses_with w g qs (expr.And ops) ≡ Some cs → (operand : ClassExpr) → In operand ops → IsSome (operand_value w intersection operand)
   operand_has intersection qs ops cs is operand here =
-      let os = option_and_then_some (λ operands. option_map (λ values. group_clauses intersection qs (sorted_by value_text values)) (each_some (operand_value w intersection) operands)) (group_operands intersection (expr.And ops)) cs is in
-      let values = option_map_some (λ values. group_clauses intersection qs (sorted_by value_text values)) (each_some (operand_value w intersection) os.0) cs os.2 in
+      let os = option_and_then_some (λ operands. option_map (λ values. plain_group_clauses intersection qs (sorted_by value_text values)) (each_some (operand_value w intersection) operands)) (group_operands intersection (expr.And ops)) cs is in
+      let values = option_map_some (λ values. plain_group_clauses intersection qs (sorted_by value_text values)) (each_some (operand_value w intersection) os.0) cs os.2 in
       let same : ops ≡ os.0 = same_Some ops os.0 (sym (ap (Rattle.obo_statements.specs.Groups.operands_in intersection) (out_and ops)) ∙ os.1) in
       let v = each_some-items (operand_value w intersection) os.0 values.0 values.1 operand (subst (In operand) same here) in
       subst (λ o. IsSome o) (sym v.2) refl
   operand_has union qs ops cs is operand here =
-      let os = option_and_then_some (λ operands. option_map (λ values. group_clauses union qs (sorted_by value_text values)) (each_some (operand_value w union) operands)) (group_operands union (expr.And ops)) cs is in
+      let os = option_and_then_some (λ operands. option_map (λ values. plain_group_clauses union qs (sorted_by value_text values)) (each_some (operand_value w union) operands)) (group_operands union (expr.And ops)) cs is in
       absurd (none-some os.0 (sym (ap (Rattle.obo_statements.specs.Groups.operands_in union) (out_and ops)) ∙ os.1))
 
   grouped_operand : (a : Axiom) (class : List ℕ) (ops : List ClassExpr) → Defines a.body class ops → GroupedAt w a x → (operand : ClassExpr) → In operand ops → IsSome (operand_value w intersection operand)
-  unfolding group_spelling
   grouped_operand a class ops (inl is) grouped operand here =
       let g = grouped.0 in
-      let v = some_value (group_in_body w x.iri g a.sides (body.Equiv (expr.Class class) (expr.And ops))) (subst (λ b. IsSome (group_in_body w x.iri g a.sides b)) is grouped.1) in
-      let qs = option_and_then_some (λ qualifiers. option_and_then (clauses_with w g qualifiers) (other_expr x.iri (expr.Class class) (expr.And ops))) (qualifiers_of a.sides) v.0 v.1 in
-      let whole = option_and_then_some (clauses_with w g qs.0) (other_expr x.iri (expr.Class class) (expr.And ops)) v.0 qs.2 in
+      let v = some_value (plain_group_in_body w x.iri g a.sides (body.Equiv (expr.Class class) (expr.And ops))) (subst (λ b. IsSome (plain_group_in_body w x.iri g a.sides b)) is (subst (λ o. IsSome o) (group_is_spelled_plainly w x.iri g a) grouped.1)) in
+      let qs = option_and_then_some (λ qualifiers. option_and_then (plain_clauses_with w g qualifiers) (other_expr x.iri (expr.Class class) (expr.And ops))) (qualifiers_of a.sides) v.0 v.1 in
+      let whole = option_and_then_some (plain_clauses_with w g qs.0) (other_expr x.iri (expr.Class class) (expr.And ops)) v.0 qs.2 in
       let none = and_not x.iri ops in
       let same : whole.0 ≡ expr.And ops = ⊎_elim
       (λ yes. sym (same_Some (expr.And ops) whole.0 (sym (cond-true _ (Some (expr.And ops)) _ yes) ∙ whole.1)))
       (λ isnt. absurd (none-some whole.0 (ap (λ t. where_true t (Some (expr.Class class))) (sym none) ∙ sym (cond-false _ (Some (expr.And ops)) _ isnt) ∙ whole.1)))
       (cases_Bool (is_class x.iri (expr.Class class))) in
-      operand_has g qs.0 ops v.0 (subst (λ e. clauses_with w g qs.0 e ≡ Some v.0) same whole.2) operand here
+      operand_has g qs.0 ops v.0 (subst (λ e. plain_clauses_with w g qs.0 e ≡ Some v.0) same whole.2) operand here
   grouped_operand a class ops (inr is) grouped operand here =
       let g = grouped.0 in
-      let v = some_value (group_in_body w x.iri g a.sides (body.Equiv (expr.And ops) (expr.Class class))) (subst (λ b. IsSome (group_in_body w x.iri g a.sides b)) is grouped.1) in
-      let qs = option_and_then_some (λ qualifiers. option_and_then (clauses_with w g qualifiers) (other_expr x.iri (expr.And ops) (expr.Class class))) (qualifiers_of a.sides) v.0 v.1 in
-      let whole = option_and_then_some (clauses_with w g qs.0) (other_expr x.iri (expr.And ops) (expr.Class class)) v.0 qs.2 in
+      let v = some_value (plain_group_in_body w x.iri g a.sides (body.Equiv (expr.And ops) (expr.Class class))) (subst (λ b. IsSome (plain_group_in_body w x.iri g a.sides b)) is (subst (λ o. IsSome o) (group_is_spelled_plainly w x.iri g a) grouped.1)) in
+      let qs = option_and_then_some (λ qualifiers. option_and_then (plain_clauses_with w g qualifiers) (other_expr x.iri (expr.And ops) (expr.Class class))) (qualifiers_of a.sides) v.0 v.1 in
+      let whole = option_and_then_some (plain_clauses_with w g qs.0) (other_expr x.iri (expr.And ops) (expr.Class class)) v.0 qs.2 in
       let rest = sym (cond-false _ (Some (expr.Class class)) (where_true (is_class x.iri (expr.Class class)) (Some (expr.And ops))) (and_not x.iri ops)) ∙ whole.1 in
       let same : whole.0 ≡ expr.And ops = sym (same_Some (expr.And ops) whole.0 (where_true_some (is_class x.iri (expr.Class class)) (Some (expr.And ops)) whole.0 rest).1) in
-      operand_has g qs.0 ops v.0 (subst (λ e. clauses_with w g qs.0 e ≡ Some v.0) same whole.2) operand here
+      operand_has g qs.0 ops v.0 (subst (λ e. plain_clauses_with w g qs.0 e ≡ Some v.0) same whole.2) operand here
 
 -- ---- a definition that can be written
 
@@ -222,7 +223,7 @@ module _ (name : Option (List ℕ)) (axioms : List Axiom) (spellable : IsSpellab
         super = is.operand;
         is = is.is;
         declared = formed.0;
-        has = formed.1 is.operand (In-from_contains is.operand implied.operands implied.has);
+        has = worded_from_value (writing_of name) intersection is.operand (formed.1 is.operand (In-from_contains is.operand implied.operands implied.has));
         proper = subst IsProper (sym is.is) (implied_proper axioms is.class is.operand spellable.proper implied);
       }
 
