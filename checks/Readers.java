@@ -26,6 +26,7 @@ import org.semanticweb.owlapi.model.OWLClass;
 import org.semanticweb.owlapi.model.OWLClassExpression;
 import org.semanticweb.owlapi.model.OWLEntity;
 import org.semanticweb.owlapi.model.OWLEquivalentClassesAxiom;
+import org.semanticweb.owlapi.model.OWLInverseObjectPropertiesAxiom;
 import org.semanticweb.owlapi.model.OWLOntology;
 import org.semanticweb.owlapi.model.OWLOntologyCreationException;
 import org.semanticweb.owlapi.model.OWLSubClassOfAxiom;
@@ -62,10 +63,21 @@ public class Readers {
     Set<String> texts = new TreeSet<>();
     for (OWLAxiom axiom : axioms) {
       if (axiom.isLogicalAxiom()) {
-        texts.add(axiom.getAxiomWithoutAnnotations().toString());
+        texts.add(text(axiom.getAxiomWithoutAnnotations()));
       }
     }
     return texts;
+  }
+
+  /** The text of an axiom; of two inverse roles, which may stand in any order, the least of both. */
+  static String text(OWLAxiom axiom) {
+    if (!(axiom instanceof OWLInverseObjectPropertiesAxiom)) {
+      return axiom.toString();
+    }
+    OWLInverseObjectPropertiesAxiom inverse = (OWLInverseObjectPropertiesAxiom) axiom;
+    String one = inverse.getFirstProperty() + " " + inverse.getSecondProperty();
+    String other = inverse.getSecondProperty() + " " + inverse.getFirstProperty();
+    return "InverseObjectProperties(" + (one.compareTo(other) < 0 ? one : other) + ")";
   }
 
   static Set<String> module(OWLOntology whole, String terms, ModuleType kind) throws Exception {
