@@ -1,6 +1,7 @@
 // What the OWL API makes of ontologies, for checks/readers.sh, which says how it is run.
 //
-//   Readers axioms A B                compares the logical axioms of two ontologies
+//   Readers axioms A B [NAMES]        compares the logical axioms of two ontologies; each line of NAMES has an IRI and the one
+//                                     that stands for it in A before they are compared
 //   Readers module WHOLE TERMS KIND OURS   compares the module of KIND (BOT, TOP, STAR) that the OWL API takes of WHOLE, for
 //                                     the classes whose IRIs stand in TERMS, one on each line, with an ontology
 //   Readers above A B                 compares the pairs of a class and a class above it
@@ -9,6 +10,7 @@
 // many only the second one has. To standard error go the first twenty that only one has.
 
 import java.io.File;
+import java.io.IOException;
 import java.nio.file.Files;
 import java.util.ArrayDeque;
 import java.util.Deque;
@@ -18,6 +20,8 @@ import java.util.List;
 import java.util.Map;
 import java.util.Set;
 import java.util.TreeSet;
+import java.util.regex.Matcher;
+import java.util.regex.Pattern;
 import java.util.stream.Collectors;
 import org.semanticweb.owlapi.apibinding.OWLManager;
 import org.semanticweb.owlapi.model.IRI;
@@ -37,7 +41,7 @@ public class Readers {
   public static void main(String[] words) throws Exception {
     switch (words[0]) {
       case "axioms":
-        compare(logical(read(words[1])), logical(read(words[2])));
+        compare(renamed(logical(read(words[1])), words.length > 3 ? words[3] : null), logical(read(words[2])));
         break;
       case "module":
         compare(module(read(words[1]), words[2], ModuleType.valueOf(words[3])), logical(read(words[4])));
@@ -78,6 +82,22 @@ public class Readers {
     String one = inverse.getFirstProperty() + " " + inverse.getSecondProperty();
     String other = inverse.getSecondProperty() + " " + inverse.getFirstProperty();
     return "InverseObjectProperties(" + (one.compareTo(other) < 0 ? one : other) + ")";
+  }
+
+  /** The texts with other IRIs in place of those that stand in the first column of a file. */
+  static Set<String> renamed(Set<String> texts, String names) throws IOException {
+    if (names == null) {
+      return texts;
+    }
+    Map<String, String> others = new HashMap<>();
+    for (String line : Files.readAllLines(new File(names).toPath())) {
+      String[] columns = line.split(" ");
+      others.put("<" + columns[0] + ">", "<" + columns[1] + ">");
+    }
+    Pattern iri = Pattern.compile("<[^>]*>");
+    return texts.stream()
+        .map(text -> iri.matcher(text).replaceAll(found -> Matcher.quoteReplacement(others.getOrDefault(found.group(), found.group()))))
+        .collect(Collectors.toCollection(TreeSet::new));
   }
 
   static Set<String> module(OWLOntology whole, String terms, ModuleType kind) throws Exception {

@@ -1,7 +1,8 @@
 #!/usr/bin/env bash
 # checks/readers.sh FOLDER  compares what `robot` makes of each OBO file of the folder with what other programs make of it,
 # and prints four tables:
-#   the logical axioms of the OWL API's reader of OBO, from the file and from the canonical text, with those of `robot`;
+#   the logical axioms of the OWL API's reader of OBO, from the file and from the canonical text, with those of `robot`; where
+#   the OWL API gives relations the IRIs of their xrefs, once more with these in `robot`'s axioms too;
 #   the modules (BOT, TOP, STAR) of at most 50 classes of the OWL API with those of `robot`;
 #   the classes above each class of the reasoner Konclude with those that `reason` and `relax` leave;
 #   the terms and relationships that the Perl modules of the Gene Ontology read in the file and in the canonical text.
@@ -63,6 +64,18 @@ compare() {
   row "$name" "${counts[0]:-}" "${counts[1]:-}" "${counts[2]:-}" "${counts[3]:-}"
 }
 
+# shorthands FILE.obo  of each relation whose id is a plain word and which has an xref of the form PREFIX:DIGITS: its IRI, and
+# that of the first such xref, which is the one that the OWL API gives it.
+shorthands() {
+  awk -v base=http://purl.obolibrary.org/obo/ '
+    function told() { if (id != "" && other != "") print base ontology "#" id, base other; id = other = "" }
+    /^ontology: / { ontology = $2 }
+    /^\[/ { told(); inside = /^\[Typedef\]/ }
+    inside && /^id: [A-Za-z0-9_]+$/ { id = $2 }
+    inside && /^xref: [A-Za-z][A-Za-z0-9_]*:[0-9]+( |$)/ && other == "" { other = $2; sub(":", "_", other) }
+    END { told() }' "$1"
+}
+
 heads() {
   echo
   echo "| $1 | both | only \`robot\` | only $2 |"
@@ -104,6 +117,10 @@ if [ $has_api = yes ]; then
   for name in "${files[@]}"; do
     compare "$name, from the file" axioms "$spare/$name.ofn" "$name.obo"
     compare "$name, from the canonical text" axioms "$spare/$name.ofn" "$spare/$name.obo"
+    shorthands "$spare/$name.obo" >"$spare/shorthands"
+    if [ -s "$spare/shorthands" ]; then
+      compare "$name, with the relations by their xrefs" axioms "$spare/$name.ofn" "$name.obo" "$spare/shorthands"
+    fi
   done
   heads 'modules' 'the OWL API'
   for name in "${files[@]}"; do
