@@ -1,7 +1,7 @@
 // What the OWL API makes of ontologies, for checks/readers.sh, which says how it is run.
 //
-//   Readers axioms A B [NAMES]        compares the logical axioms of two ontologies; each line of NAMES has an IRI and the one
-//                                     that stands for it in A before they are compared
+//   Readers axioms A B [NAMES]        compares the logical axioms of two ontologies; each line of NAMES has the IRI of a
+//                                     relation and the one that stands for it in A before they are compared
 //   Readers module WHOLE TERMS KIND OURS   compares the module of KIND (BOT, TOP, STAR) that the OWL API takes of WHOLE, for
 //                                     the classes whose IRIs stand in TERMS, one on each line, with an ontology
 //   Readers above A B                 compares the pairs of a class and a class above it
@@ -20,8 +20,6 @@ import java.util.List;
 import java.util.Map;
 import java.util.Set;
 import java.util.TreeSet;
-import java.util.regex.Matcher;
-import java.util.regex.Pattern;
 import java.util.stream.Collectors;
 import org.semanticweb.owlapi.apibinding.OWLManager;
 import org.semanticweb.owlapi.model.IRI;
@@ -33,7 +31,9 @@ import org.semanticweb.owlapi.model.OWLEquivalentClassesAxiom;
 import org.semanticweb.owlapi.model.OWLInverseObjectPropertiesAxiom;
 import org.semanticweb.owlapi.model.OWLOntology;
 import org.semanticweb.owlapi.model.OWLOntologyCreationException;
+import org.semanticweb.owlapi.model.OWLOntologyManager;
 import org.semanticweb.owlapi.model.OWLSubClassOfAxiom;
+import org.semanticweb.owlapi.util.OWLEntityRenamer;
 import uk.ac.manchester.cs.owlapi.modularity.ModuleType;
 import uk.ac.manchester.cs.owlapi.modularity.SyntacticLocalityModuleExtractor;
 
@@ -41,7 +41,8 @@ public class Readers {
   public static void main(String[] words) throws Exception {
     switch (words[0]) {
       case "axioms":
-        compare(renamed(logical(read(words[1])), words.length > 3 ? words[3] : null), logical(read(words[2])));
+        OWLOntology first = read(words[1]);
+        compare(logical(words.length > 3 ? renamed(first, words[3]) : first), logical(read(words[2])));
         break;
       case "module":
         compare(module(read(words[1]), words[2], ModuleType.valueOf(words[3])), logical(read(words[4])));
@@ -84,20 +85,16 @@ public class Readers {
     return "InverseObjectProperties(" + (one.compareTo(other) < 0 ? one : other) + ")";
   }
 
-  /** The texts with other IRIs in place of those that stand in the first column of a file. */
-  static Set<String> renamed(Set<String> texts, String names) throws IOException {
-    if (names == null) {
-      return texts;
-    }
-    Map<String, String> others = new HashMap<>();
+  /** The ontology with the IRIs of relations in the first column of a file given up for those in the second one. */
+  static OWLOntology renamed(OWLOntology ontology, String names) throws IOException {
+    OWLOntologyManager manager = ontology.getOWLOntologyManager();
+    Map<OWLEntity, IRI> others = new HashMap<>();
     for (String line : Files.readAllLines(new File(names).toPath())) {
       String[] columns = line.split(" ");
-      others.put("<" + columns[0] + ">", "<" + columns[1] + ">");
+      others.put(manager.getOWLDataFactory().getOWLObjectProperty(IRI.create(columns[0])), IRI.create(columns[1]));
     }
-    Pattern iri = Pattern.compile("<[^>]*>");
-    return texts.stream()
-        .map(text -> iri.matcher(text).replaceAll(found -> Matcher.quoteReplacement(others.getOrDefault(found.group(), found.group()))))
-        .collect(Collectors.toCollection(TreeSet::new));
+    manager.applyChanges(new OWLEntityRenamer(manager, List.of(ontology)).changeIRI(others));
+    return ontology;
   }
 
   static Set<String> module(OWLOntology whole, String terms, ModuleType kind) throws Exception {
