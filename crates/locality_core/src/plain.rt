@@ -1,5 +1,5 @@
 //! The axioms over nodes.
-ghost use Rattle.std.specs.Prelude.{◌≡◌, IfOk};
+ghost use Rattle.std.specs.Prelude.{◌≡◌, IfOk, OnErr};
 ghost use Rattle.expr_pool.specs.Pool.{Grew};
 ghost use Rattle.locality_core.specs.Plain.{IsPlainOf};
 
@@ -27,16 +27,24 @@ pub enum Plain {
     Other,
 }
 
-/// The nodes of an axiom's class expressions, which have nodes in the pool then. After `NoMemory` each node that was in
-/// the pool keeps its tree, and further nodes may be in it.
+/// The nodes of an axiom's class expressions, which have nodes in the pool then. Each node that was in the pool keeps its
+/// tree. Where no memory is left, nothing has happened.
 pub fn pool_axiom(alloc: Global, pool: &mut Pool, axiom: &Axiom) -> Result<Plain, NoMemory>
     ensures kept { Grew pool.old pool.new }
     ensures nodes { IfOk result (IsPlainOf pool.new «axiom».now.body) }
+    ensures unchanged { OnErr result (pool.new ≡ pool.old) }
 {
-    pool_body(alloc, pool, &axiom.body)
+    let len = pool.len();
+    match pool_body(alloc, pool, &axiom.body) {
+        Ok(plain) => Ok(plain),
+        Err(fault) => {
+            pool.cut(len);
+            Err(fault)
+        }
+    }
 }
 
-/// The nodes of the class expressions in what an axiom says.
+/// The nodes of the class expressions in what an axiom says. Where no memory is left, some of them may be in the pool.
 fn pool_body(alloc: Global, pool: &mut Pool, body: &Body) -> Result<Plain, NoMemory>
     ensures kept { Grew pool.old pool.new }
     ensures nodes { IfOk result (IsPlainOf pool.new body.now) }
