@@ -1,46 +1,223 @@
 #!/usr/bin/env bash
-# checks/refuse_allocations.sh [FROM TO]  runs the stored run of `robot_cli` with its Nth allocation refused, for each N from
-# FROM to TO (1 to 160 without them), and prints for each N the status, and whether the output is not there, whole or
-# another. It builds the program once for each N, without a proof, so each takes most of a minute. It ends with status 1
-# where a run ended with another status than 0 and 4, or wrote something else than the whole output.
+# checks/refuse_allocations.sh [TESTS..]  runs `robot` with its Nth growth of memory refused, over small files that it makes in
+# a temporary folder and over chains with all steps, for each N from 1 until a run asks for no more. A growth is a call of
+# malloc, calloc, realloc, posix_memalign or aligned_alloc; a library that stands before the C library counts them from the
+# start of the program on, and refuses the one whose number it is given, and no other.
+#   For each chain it prints how often memory is asked for, how many of these runs ended with status 4, no output and no
+# report, and how many with status 0, the whole output and the whole report, byte for byte as with ample memory. Any other
+# ending is printed, and makes the script end with status 1: another status, another or half-written output, a crash.
+#   TESTS are test programs, built of `run_examples` and of `engine_examples`, each with a test of its own for this (in
+# `refused_memory.rt`). For each it prints how many runs ended by want of memory in the call that is tried, how many in what
+# the test does before it, and how many answered as ever. It ends with status 1 where the first are too few, and where a
+# test ended otherwise.
+# `robot` builds the program first, if it has to be built; what is run is the program itself. Where ROBOT_PROGRAM is set,
+# it is the path of a built program, which is run in its place, and nothing is built. Without gcc nothing is checked, and
+# the status is 0.
 set -u
-if [ $# -ne 0 ] && [ $# -ne 2 ]; then
-  echo "usage: checks/refuse_allocations.sh [FROM TO]" >&2
-  exit 2
-fi
-if ! command -v rt >/dev/null; then
-  echo "checks/refuse_allocations.sh: no command rt, so nothing is checked"
+if ! command -v gcc >/dev/null; then
+  echo "checks/refuse_allocations.sh: no command gcc, so nothing is checked"
   exit 0
 fi
 top=$(cd "$(dirname "$0")/.." && pwd)
 folder=$(mktemp -d)
 trap 'rm -rf "$folder"' EXIT
-cd "$top/crates/robot_cli" || exit 1
+tests=()
+for one in "$@"; do
+  tests+=("$(readlink -f "$one")")
+done
+if [ -n "${ROBOT_PROGRAM:-}" ]; then
+  program=$(readlink -f "$ROBOT_PROGRAM")
+else
+  program=$top/crates/robot_cli/out/robot_cli
+  "$top/robot" merge --input /dev/null convert --output "$folder/first.obo" >/dev/null || exit 1
+fi
+cd "$folder" || exit 1
 
-# Runs the program with these options of `rt try`, and prints its status.
-run() {
-  rt try "$@" 2>&1 </dev/null | sed -n 's/.*status=\([0-9][0-9]*\).*/\1/p' | tail -n 1
+# The library, which asks for no memory itself. At the end it writes the count to the file that REFUSE_COUNT names.
+cat >refuse.c <<'END'
+#include <errno.h>
+#include <fcntl.h>
+#include <stddef.h>
+#include <stdlib.h>
+#include <unistd.h>
+
+extern void *__libc_malloc(size_t);
+extern void *__libc_calloc(size_t, size_t);
+extern void *__libc_realloc(void *, size_t);
+extern void *__libc_memalign(size_t, size_t);
+
+static long refused, asked;
+static const char *counts;
+
+__attribute__((constructor)) static void begin(void) {
+  const char *number = getenv("REFUSE_NUMBER");
+  refused = number ? atol(number) : 0;
+  counts = getenv("REFUSE_COUNT");
+  asked = 0;
 }
 
-if [ "$(run -- merge --input data/a.obo convert --output "$folder/whole.obo")" != 0 ]; then
-  echo "checks/refuse_allocations.sh: the run does not end with status 0 where memory is ample" >&2
+__attribute__((destructor)) static void end(void) {
+  char digits[24];
+  int at = sizeof digits, file;
+  if (!counts) return;
+  file = open(counts, O_WRONLY | O_CREAT | O_TRUNC, 0644);
+  do digits[--at] = (char)('0' + asked % 10); while ((asked /= 10) > 0);
+  if (file < 0 || write(file, digits + at, sizeof digits - at) < 0) _exit(125);
+}
+
+static int is_refused(void) {
+  asked += 1;
+  if (asked != refused) return 0;
+  errno = ENOMEM;
+  return 1;
+}
+
+void *malloc(size_t size) { return is_refused() ? NULL : __libc_malloc(size); }
+void *calloc(size_t count, size_t size) { return is_refused() ? NULL : __libc_calloc(count, size); }
+void *realloc(void *old, size_t size) { return is_refused() ? NULL : __libc_realloc(old, size); }
+void *aligned_alloc(size_t align, size_t size) { return is_refused() ? NULL : __libc_memalign(align, size); }
+int posix_memalign(void **made, size_t align, size_t size) {
+  if (is_refused()) return ENOMEM;
+  *made = __libc_memalign(align, size);
+  return *made ? 0 : ENOMEM;
+}
+END
+gcc -shared -fPIC -O1 -o refuse.so refuse.c || exit 1
+
+cat >edit.obo <<'END'
+format-version: 1.2
+ontology: ex
+import: base.obo
+subsetdef: slim "Short list"
+synonymtypedef: trade "Trade name" EXACT
+
+[Term]
+id: EX:0000001
+name: wheel
+def: "A round part, with a hub.\nIt turns." [EX:kc, ISBN:123 "book"]
+synonym: "roller" BROAD trade [EX:kc]
+subset: slim
+xref: WD:Q446 "wheel"
+is_a: EX:0000002 {source="EX:kc"} ! part
+relationship: part_of EX:0000003
+
+[Term]
+id: EX:0000004
+name: front wheel
+intersection_of: EX:0000001
+intersection_of: part_of EX:0000005
+
+[Term]
+id: EX:0000005
+name: front
+is_a: EX:0000003
+is_a: EX:0000002
+
+[Term]
+id: EX:0000006
+union_of: EX:0000001
+union_of: EX:0000005
+foo: bar
+END
+cat >base.obo <<'END'
+[Term]
+id: EX:0000002
+name: part
+
+[Term]
+id: EX:0000003
+name: bicycle
+is_a: EX:0000002
+
+[Typedef]
+id: part_of
+name: part of
+is_transitive: true
+END
+printf 'EX:0000004\n' >terms.txt
+bad=0
+
+# tried NUMBER WORDS..  runs the program with these words and this growth refused, and sets `status`.
+tried() {
+  local number=$1
+  shift
+  rm -f out.obo out.ofn
+  REFUSE_NUMBER=$number REFUSE_COUNT=$folder/count LD_PRELOAD=$folder/refuse.so "$program" "$@" >report 2>err
+  status=$?
+}
+
+# chain WORDS..  runs this chain with each growth refused in turn, and prints a row.
+chain() {
+  local words=(merge --input edit.obo "$@") output=${!#} name number asked denied=0 whole=0
+  name=${words[*]}
+  tried 0 "${words[@]}"
+  if [ "$status" -ne 0 ] || ! cp "$output" whole || ! cp report whole_report; then
+    echo "$name: status $status where memory is ample" >>beyond
+    return
+  fi
+  asked=$(cat count)
+  for ((number = 1; number <= asked + 1; number++)); do
+    tried "$number" "${words[@]}"
+    if [ "$status" -eq 4 ] && [ ! -e "$output" ] && [ ! -s report ] && [ "$number" -le "$asked" ]; then
+      denied=$((denied + 1))
+    elif [ "$status" -eq 0 ] && cmp -s "$output" whole && cmp -s report whole_report; then
+      whole=$((whole + (number <= asked)))
+    else
+      echo "$name: with growth $number refused status $status, $(wc -c <"$output" 2>/dev/null || echo no) bytes of output, $(wc -c <report) of report" >>beyond
+    fi
+  done
+  echo "| \`${name//|/\\|}\` | $asked | $denied | $whole |"
+}
+
+# test_program PROGRAM  runs the test of this program with each growth refused in turn, and prints a row.
+test_program() {
+  local name number asked denied=0 before=0 as_ever=0 least
+  name=$("$1" --list 2>/dev/null | sed -n 's/^\(.*refused_memory::.*\): test$/\1/p')
+  case $name in
+    *a_second_read_fails) least=100 ;;
+    *a_module_of_nested_restrictions) least=64 ;;
+    *) echo "$1: no test of refused memory" >>beyond; return ;;
+  esac
+  REFUSE_COUNT=$folder/count LD_PRELOAD=$folder/refuse.so "$1" "$name" >report 2>err || {
+    echo "$name: it fails where memory is ample" >>beyond
+    return
+  }
+  asked=$(cat count)
+  for ((number = 1; number <= asked; number++)); do
+    if REFUSE_NUMBER=$number LD_PRELOAD=$folder/refuse.so "$1" "$name" >report 2>err; then
+      as_ever=$((as_ever + 1))
+    elif grep -q '"out of memory"' err; then
+      denied=$((denied + 1))
+    elif grep -q '^error: ' err; then
+      before=$((before + 1))
+    else
+      echo "$name: with growth $number refused: $(head -n 3 err | tr '\n' ' ')" >>beyond
+    fi
+  done
+  echo "| \`${name##*::}\` | $asked | $denied | $before | $as_ever |"
+  [ "$denied" -ge "$least" ] || echo "$name: $denied runs ended by want of memory, in place of $least" >>beyond
+}
+
+: >beyond
+echo '| chain | growths | status 4, no output | status 0, whole output |'
+echo '|---|---|---|---|'
+for output in out.obo out.ofn; do
+  chain convert --output $output
+  for method in BOT TOP STAR; do
+    chain extract --method $method --term-file terms.txt convert --output $output
+  done
+  chain reason relax reduce convert --output $output
+done
+if [ ${#tests[@]} -gt 0 ]; then
+  echo
+  echo '| test | growths | out of memory | before the call | as ever |'
+  echo '|---|---|---|---|---|'
+  for one in "${tests[@]}"; do
+    test_program "$one"
+  done
+fi
+if [ -s beyond ]; then
+  echo
+  cat beyond
   exit 1
 fi
-bad=0
-for ((number = ${1:-1}; number <= ${2:-160}; number++)); do
-  output=$folder/$number.obo
-  status=$(run --fail-alloc "$number" -- merge --input data/a.obo convert --output "$output")
-  written="not there"
-  if [ -e "$output" ]; then
-    written=another
-    if cmp -s "$output" "$folder/whole.obo"; then
-      written=whole
-    fi
-  fi
-  echo "$number: status ${status:-none}, output $written"
-  case "$status $written" in
-    "0 whole" | "4 not there") ;;
-    *) bad=1 ;;
-  esac
-done
-exit $bad

@@ -2,6 +2,7 @@
 mod cuts;
 mod extracts;
 mod pools;
+mod refused_memory;
 mod signatures;
 mod steps;
 mod verdicts;

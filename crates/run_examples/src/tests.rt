@@ -4,6 +4,7 @@ mod ground;
 mod ontologies;
 mod real_files;
 mod refused;
+mod refused_memory;
 mod reports;
 mod rows;
 mod runs;
