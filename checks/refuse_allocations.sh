@@ -4,8 +4,9 @@
 # malloc, calloc, realloc, posix_memalign or aligned_alloc; a library that stands before the C library counts them from the
 # start of the program on, and refuses the one whose number it is given, and no other.
 #   For each chain it prints how often memory is asked for, how many of these runs ended with status 4, no output and no
-# report, and how many with status 0, the whole output and the whole report, byte for byte as with ample memory. Any other
-# ending is printed, and makes the script end with status 1: another status, another or half-written output, a crash.
+# report, how many with status 4 and no report behind the whole output, since the report is made last, and how many with
+# status 0, the whole output and the whole report, byte for byte as with ample memory. Any other ending is printed, and makes
+# the script end with status 1: another status, another or half-written output, a crash.
 #   TESTS are test programs, built of `run_examples` and of `engine_examples`, each with a test of its own for this (in
 # `refused_memory.rt`). For each it prints how many runs ended by want of memory in the call that is tried, how many in what
 # the test does before it, and how many answered as ever. It ends with status 1 where the first are too few, and where a
@@ -148,7 +149,7 @@ tried() {
 
 # chain WORDS..  runs this chain with each growth refused in turn, and prints a row.
 chain() {
-  local words=(merge --input edit.obo "$@") output=${!#} name number asked denied=0 whole=0
+  local words=(merge --input edit.obo "$@") output=${!#} name number asked denied=0 unreported=0 whole=0
   name=${words[*]}
   tried 0 "${words[@]}"
   if [ "$status" -ne 0 ] || ! cp "$output" whole || ! cp report whole_report; then
@@ -160,13 +161,15 @@ chain() {
     tried "$number" "${words[@]}"
     if [ "$status" -eq 4 ] && [ ! -e "$output" ] && [ ! -s report ] && [ "$number" -le "$asked" ]; then
       denied=$((denied + 1))
+    elif [ "$status" -eq 4 ] && cmp -s "$output" whole && [ ! -s report ] && [ "$number" -le "$asked" ]; then
+      unreported=$((unreported + 1))
     elif [ "$status" -eq 0 ] && cmp -s "$output" whole && cmp -s report whole_report; then
       whole=$((whole + (number <= asked)))
     else
       echo "$name: with growth $number refused status $status, $(wc -c <"$output" 2>/dev/null || echo no) bytes of output, $(wc -c <report) of report" >>beyond
     fi
   done
-  echo "| \`${name//|/\\|}\` | $asked | $denied | $whole |"
+  echo "| \`${name//|/\\|}\` | $asked | $denied | $unreported | $whole |"
 }
 
 # test_program PROGRAM  runs the test of this program with each growth refused in turn, and prints a row.
@@ -199,8 +202,8 @@ test_program() {
 }
 
 : >beyond
-echo '| chain | growths | status 4, no output | status 0, whole output |'
-echo '|---|---|---|---|'
+echo '| chain | growths | status 4, no output | status 4, the output alone | status 0, output and report |'
+echo '|---|---|---|---|---|'
 for output in out.obo out.ofn; do
   chain convert --output $output
   for method in BOT TOP STAR; do
