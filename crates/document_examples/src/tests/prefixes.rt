@@ -1,5 +1,5 @@
-//! Files that are cut off: each prefix is read whole as in pieces, and its fault stands on its last line.
-use super::pieces::is_same_in_pieces;
+//! Files that are cut off: each prefix is read whole as in pieces of one byte, and its fault stands on its last line.
+use super::pieces::is_same_in_bytes;
 use crate::{bytes_of, push, wrong_in};
 use obo_frames::{DocFault, read_document};
 use rel_io::NoMemory;
@@ -32,13 +32,13 @@ fn wrong_prefixes(alloc: Global, file: &str) -> Result<Vec<u8>, NoMemory> {
     Ok(wrong)
 }
 
-/// Whether a small file is the same in pieces, and has its fault, if any, on its last line.
+/// Whether a small file is the same in pieces of one byte, and has its fault, if any, on its last line.
 fn is_as_wanted(alloc: Global, file: &[u8]) -> bool {
     if file.len() > 1000 {
         return false;
     }
     let read = read_document(alloc, file, 60);
-    let is_same = is_same_in_pieces(alloc, file, 60, &read);
+    let is_same = is_same_in_bytes(alloc, file, 60, &read);
     let is_last = match &read {
         Ok(_) => true,
         Err(fault) => line_of(*fault) == lines_in(file),
