@@ -4,6 +4,7 @@ mod documents;
 mod iris;
 mod lines;
 mod pieces;
+mod prefixes;
 mod printed;
 mod tables;
 mod tags;

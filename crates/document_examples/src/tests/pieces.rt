@@ -24,6 +24,18 @@ pub fn is_same_in_pieces(
     is_same && is_same_in_two(alloc, file, line_limit, whole)
 }
 
+/// Whether the file comes to the same in pieces of one byte.
+pub fn is_same_in_bytes(
+    alloc: Global,
+    file: &[u8],
+    line_limit: u32,
+    whole: &Result<Document, DocFault>,
+) -> bool
+    requires few { length file.now < 2 ^ 32 }
+{
+    is_same_as(whole, read_in_pieces(alloc, file, 1, line_limit))
+}
+
 /// Whether the file comes to the same cut in two at each place.
 fn is_same_in_two(
     alloc: Global,

@@ -137,3 +137,45 @@ fn shown(alloc: Global, sources: &[SourceFile]) -> Result<Vec<u8>, NoMemory> {
     }
     Ok(text)
 }
+
+/// How many files import each other in a row; and how many are read then, or the fault.
+const CHAINS: &str = "\
+256 => 256
+257 => TooManyFiles 256";
+
+#[test]
+fn so_many_files_are_read(rt: HostRuntime) -> Result<(), Fail> {
+    let wrong = wrong_in(rt.alloc(), CHAINS, chained)?;
+    assert_eq!(rt; wrong.as_str(), "");
+    Ok(())
+}
+
+/// How many files of a chain of so many are read.
+fn chained(alloc: Global, count: &str) -> Result<Vec<u8>, NoMemory> {
+    let limits = Limits {
+        files: Limits::release().files,
+        bytes: 9999,
+        line: Limits::release().line,
+        seed_lines: 0,
+        facts: 0,
+    };
+    let files = chain(alloc, count.parse::<u32>().unwrap_or(0))?;
+    let mut folder = folder_with(alloc, files.as_str(), 65_536, 99_999)?;
+    let names = names_in(alloc, "f0")?;
+    match read_files(alloc, &mut folder, names.as_slice(), None, &limits) {
+        Ok(sources) => Ok(format!(in alloc; "{}", sources.as_slice().len())?.into_bytes()),
+        Err(fault) => shown_fault(alloc, &fault),
+    }
+}
+
+/// So many files, as a row has them, each of which imports the next one.
+fn chain(alloc: Global, count: u32) -> Result<String, NoMemory> {
+    let mut files = String::new(alloc);
+    let mut last: u32 = 0;
+    for next in 1..count {
+        files.push_str(format!(in alloc; "f{last}=import: f{next}|; ")?.as_str())?;
+        last = next;
+    }
+    files.push_str(format!(in alloc; "f{last}=")?.as_str())?;
+    Ok(files)
+}

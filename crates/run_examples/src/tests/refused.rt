@@ -35,7 +35,7 @@ fn words_are_refused_before_all(rt: HostRuntime) -> Result<(), Fail> {
 }
 
 /// How a run of these words ends.
-fn ending_of_words(alloc: Global, words: &str) -> Result<Vec<u8>, NoMemory> {
+pub fn ending_of_words(alloc: Global, words: &str) -> Result<Vec<u8>, NoMemory> {
     let row = format!(in alloc; "- 9 - -; {words}; a.obo=")?;
     ending_of(alloc, row.as_str())
 }
