@@ -46,9 +46,15 @@ fn ontology(alloc: Global) -> Result<Ontology, NoMemory> {
 fn signature(alloc: Global) -> Result<Sig, NoMemory> {
     let mut sig = Sig::new(alloc)?;
     let iri = letter(alloc, 0)?;
-    sig.add(&Name { kind: Kind::Class, iri })?;
+    sig.add(&Name {
+        kind: Kind::Class,
+        iri,
+    })?;
     let iri = letter(alloc, 15)?;
-    sig.add(&Name { kind: Kind::Role, iri })?;
+    sig.add(&Name {
+        kind: Kind::Role,
+        iri,
+    })?;
     Ok(sig)
 }
 
@@ -77,6 +83,9 @@ fn a_module_of_nested_restrictions(rt: HostRuntime) -> Result<(), Fail> {
     let sig = signature(alloc)?;
     let part = logical(alloc, &ontology)?;
     let mut steps = Steps::<Brand>::new(Blank::new(1));
-    assert_eq!(rt; answer(alloc, &ontology, &part, &sig, &mut steps), "the axiom");
+    assert_eq!(rt;
+        answer(alloc, &ontology, &part, &sig, &mut steps),
+        "the axiom"
+    );
     Ok(())
 }
