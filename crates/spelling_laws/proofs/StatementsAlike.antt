@@ -1,5 +1,5 @@
 -- A statement and a group have clauses in an ontology of one name exactly where they have them in one of another name.
-use Rattle.std.proofs.Common.{ℕ, true, ◌&&◌, List, Some}
+use Rattle.std.proofs.Common.{ℕ, true, ◌&&◌, List, Some, sym, subst}
 use Rattle.std.specs.Str.{bytes_eq}
 use Rattle.obo_tags.specs.declared.kind.FrameKind.{FrameKind}
 use Rattle.obo_clause.specs.declared.clause.Clause.{Clause}
