@@ -7,8 +7,8 @@
 # report, how many with status 4 and no report behind the whole output, since the report is made last, and how many with
 # status 0, the whole output and the whole report, byte for byte as with ample memory. Any other ending is printed, and makes
 # the script end with status 1: another status, another or half-written output, a crash.
-#   TESTS are test programs, built of `run_examples` and of `engine_examples`, each with a test of its own for this (in
-# `refused_memory.rt`). For each it prints how many runs ended by want of memory in the call that is tried, how many in what
+#   TESTS are test programs, built of `run_examples` or of another crate with a test for this (in `refused_memory.rt`). For
+# each it prints how many runs ended by want of memory in the call that is tried, how many in what
 # the test does before it, and how many answered as ever. It ends with status 1 where the first are too few, and where a
 # test ended otherwise.
 # `robot` builds the program first, if it has to be built; what is run is the program itself. Where ROBOT_PROGRAM is set,
@@ -178,7 +178,6 @@ test_program() {
   name=$("$1" --list 2>/dev/null | sed -n 's/^\(.*refused_memory::.*\): test$/\1/p')
   case $name in
     *a_second_read_fails) least=100 ;;
-    *a_module_of_nested_restrictions) least=64 ;;
     *) echo "$1: no test of refused memory" >>beyond; return ;;
   esac
   REFUSE_COUNT=$folder/count LD_PRELOAD=$folder/refuse.so "$1" "$name" >report 2>err || {

@@ -2,7 +2,6 @@
 mod cuts;
 mod extracts;
 mod pools;
-mod refused_memory;
 mod signatures;
 mod steps;
 mod verdicts;

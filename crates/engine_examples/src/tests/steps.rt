@@ -21,14 +21,14 @@ pub fn letter(alloc: Global, place: u8) -> Result<Iri, NoMemory>
 }
 
 /// The class of this letter.
-pub fn class(alloc: Global, text: u8) -> Result<ClassExpr, NoMemory>
+fn class(alloc: Global, text: u8) -> Result<ClassExpr, NoMemory>
     ensures { IfOk result IsProperExpr }
 {
     Ok(class_named(letter(alloc, text % 32 + 15)?))
 }
 
 /// What has some filler of the role p in the expression.
-pub fn some_of(alloc: Global, part: ClassExpr) -> Result<ClassExpr, NoMemory>
+fn some_of(alloc: Global, part: ClassExpr) -> Result<ClassExpr, NoMemory>
     requires { IsProperExpr part }
     ensures { IfOk result IsProperExpr }
 {
@@ -102,7 +102,7 @@ pub fn sides(alloc: Global, has_note: bool) -> Result<Vec<Side>, NoMemory>
 
 /// What is said of two expressions: a subclass for `<`, and else that they are equivalent.
 #[tactic(auto, using(crate::proofs::Proper::sub_proper, crate::proofs::Proper::equiv_proper))]
-pub fn said(sign: u8, sub: ClassExpr, other: ClassExpr) -> Body
+fn said(sign: u8, sub: ClassExpr, other: ClassExpr) -> Body
     requires sub { IsProperExpr sub }
     requires other { IsProperExpr other }
     ensures { IsTrue (is_proper_unordered result) }
