@@ -172,6 +172,19 @@ chain() {
   echo "| \`${name//|/\\|}\` | $asked | $denied | $unreported | $whole |"
 }
 
+# denied FILE WORDS..  prints how many runs of these words over the file, with each growth refused in turn, end with status 4.
+denied() {
+  local file=$1 asked ended=0
+  shift
+  tried 0 merge --input "$file" "$@"
+  asked=$(cat count)
+  for ((number = 1; number <= asked; number++)); do
+    tried "$number" merge --input "$file" "$@"
+    [ "$status" -ne 4 ] || ended=$((ended + 1))
+  done
+  echo "$ended"
+}
+
 # test_program PROGRAM  runs the test of this program with each growth refused in turn, and prints a row.
 test_program() {
   local name number asked denied=0 before=0 as_ever=0 least
@@ -211,6 +224,25 @@ for output in out.obo out.ofn; do
   done
   chain reason relax reduce convert --output $output
 done
+
+# The module of a definition with 64 restrictions keeps each of them as a node, with IRIs of its own: so it asks for more
+# memory than that of a plain inclusion with the same seed, at least once for each.
+{
+  printf 'ontology: ex\n[Term]\nid: EX:0\n'
+  for number in {1..64}; do printf 'intersection_of: r EX:%d\n' "$number"; done
+} >wide.obo
+printf 'ontology: ex\n[Term]\nid: EX:0\nis_a: EX:1\n' >plain.obo
+{ printf 'r\n'; printf 'EX:%d\n' {0..64}; } >names.txt
+module_denied() {
+  local whole step
+  whole=$(denied "$1" convert --output out.ofn)
+  step=$(denied "$1" extract --method BOT --term-file names.txt convert --output out.ofn)
+  echo $((step - whole))
+}
+wide=$(module_denied wide.obo) plain=$(module_denied plain.obo)
+echo
+echo "a module: $wide runs out of memory with a definition of 64 restrictions, $plain with one inclusion"
+[ $((wide - plain)) -ge 64 ] || echo "the module asks for too little memory for its expressions" >>beyond
 if [ ${#tests[@]} -gt 0 ]; then
   echo
   echo '| test | growths | out of memory | before the call | as ever |'
