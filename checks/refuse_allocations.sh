@@ -7,6 +7,8 @@
 # report, how many with status 4 and no report behind the whole output, since the report is made last, and how many with
 # status 0, the whole output and the whole report, byte for byte as with ample memory. Any other ending is printed, and makes
 # the script end with status 1: another status, another or half-written output, a crash.
+#   Then it takes a module of a definition with 64 restrictions and one of a plain inclusion with the same seed, and ends with
+# status 1 where the first does not run out of memory at least 64 times more often.
 #   TESTS are test programs, built of `run_examples` or of another crate with a test for this (in `refused_memory.rt`). For
 # each it prints how many runs ended by want of memory in the call that is tried, how many in what
 # the test does before it, and how many answered as ever. It ends with status 1 where the first are too few, and where a
