@@ -11,6 +11,7 @@ use crate::index::{Indexes, indexes_of};
 use crate::part::THING;
 use crate::storing::{FactRows, no_facts, put_all};
 use crate::{Fact, NumberedPart, SaturationFault, Table};
+use hash_key::HashKey;
 use std::alloc::{AllocError, Global};
 
 /// The facts that need no premise.
@@ -28,6 +29,7 @@ fn start(alloc: Global, count: u32) -> Result<Vec<Fact>, AllocError>
 /// The rows of the derived facts.
 fn saturated_rows(
     alloc: Global,
+    hash_key: HashKey,
     part: &NumberedPart,
     indexes: &Indexes,
     limit: u64,
@@ -40,7 +42,7 @@ fn saturated_rows(
     ensures err { IfErr result (λ e. IsFault part.now limit e) }
 {
     let count = part.shapes.len() as u32;
-    let mut rows = no_facts(alloc, count)?;
+    let mut rows = no_facts(alloc, hash_key, count)?;
     let mut waiting = Vec::new(alloc);
     let mut out = start(alloc, count)?;
     put_all(&mut rows, &mut waiting, out.as_slice(), limit)?;
@@ -54,12 +56,17 @@ fn saturated_rows(
 
 /// The table of exactly the derived facts, or, where they number more than the limit, the fault that says so: never
 /// both, as `answers_exclude` says. Where memory runs out, neither.
-pub fn saturate(alloc: Global, part: &NumberedPart, limit: u64) -> Result<Table, SaturationFault>
+pub fn saturate(
+    alloc: Global,
+    hash_key: HashKey,
+    part: &NumberedPart,
+    limit: u64,
+) -> Result<Table, SaturationFault>
     requires proper { IsProper part.now }
     ensures ok { IfOk result (λ table. IsSaturated part.now limit table) }
     ensures err { IfErr result (λ fault. IsFault part.now limit fault) }
 {
     let indexes = indexes_of(alloc, part)?;
-    let rows = saturated_rows(alloc, part, &indexes, limit)?;
+    let rows = saturated_rows(alloc, hash_key, part, &indexes, limit)?;
     Ok(Table::of(rows))
 }

@@ -6,6 +6,7 @@ ghost use Rattle.el_numbers.specs.inner.Storing.{IsWithin, IsLinked, Puts, Adds,
 
 use crate::{Fact, SaturationFault};
 use fact_rows::{NumberSet, PairSet, Pairs, insert_at, insert_pair_at, push_pair_at};
+use hash_key::HashKey;
 use std::alloc::{AllocError, Global};
 
 /// Facts by their first expression, and how many they are.
@@ -22,15 +23,19 @@ pub struct FactRows {
 }
 
 /// So many expressions without facts.
-pub fn no_facts(alloc: Global, count: u32) -> Result<FactRows, AllocError>
+pub fn no_facts(
+    alloc: Global,
+    hash_key: HashKey,
+    count: u32,
+) -> Result<FactRows, AllocError>
     ensures { IfOk result (λ rows. IsEmpty count rows) }
 {
     let mut below = Vec::new(alloc);
     let mut links = Vec::new(alloc);
     let mut back = Vec::new(alloc);
     for _made in 0..count {
-        below.push(NumberSet::new(alloc))?;
-        links.push(PairSet::new(alloc))?;
+        below.push(NumberSet::new(alloc, hash_key))?;
+        links.push(PairSet::new(alloc, hash_key))?;
         back.push(Pairs::new(alloc))?;
     }
     Ok(FactRows {

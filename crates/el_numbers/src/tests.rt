@@ -1,6 +1,7 @@
 //! Small parts by hand: each rule alone, and rules that meet. Thing is 0, Nothing is 1, classes come next.
 use crate::{Fact, NumberedPart, SaturationFault, Shape, Table, is_proper, saturate};
 use fact_rows::empty_numbers;
+use hash_key::HashKey;
 use std::alloc::{AllocError, Global};
 use std::test::Fail;
 
@@ -62,7 +63,7 @@ fn table_of(
     if !is_proper(&part) {
         return Err(SaturationFault::NoMemory);
     }
-    saturate(alloc, &part, limit)
+    saturate(alloc, HashKey::new(7), &part, limit)
 }
 
 /// Whether a table has a fact.

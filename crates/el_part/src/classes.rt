@@ -5,6 +5,7 @@ ghost use Rattle.expr_pool.specs.Part.{AreBefore};
 ghost use Rattle.el_part.specs.inner.ClassMap.{AreClassesOf, same_iri, with_class};
 
 use expr_pool::{Cell, Node, Pool};
+use hash_key::HashKey;
 use indexmap::IndexMap;
 use rel_io::{Dup, Iri, NoMemory};
 use std::alloc::Global;
@@ -13,7 +14,7 @@ use std::alloc::Global;
 #[tactic(auto, unfolding(crate::specs::inner::ClassMap::with_class))]
 fn add_class(
     alloc: Global,
-    classes: &mut IndexMap<Iri, Node>,
+    classes: &mut IndexMap<Iri, Node, HashKey>,
     cell: &Cell,
     node: Node,
 ) -> Result<(), NoMemory>
@@ -51,12 +52,12 @@ pub(crate) fn class_map(
     alloc: Global,
     pool: &Pool,
     nodes: &[Node],
-) -> Result<IndexMap<Iri, Node>, NoMemory>
+) -> Result<IndexMap<Iri, Node, HashKey>, NoMemory>
     requires { AreBefore (length pool.now) nodes.now }
     ensures { IfOk result (λ classes. AreClassesOf pool.now nodes.now (get same_iri classes)) }
 {
     let _count = pool.len();
-    let mut classes = IndexMap::new(alloc);
+    let mut classes = IndexMap::with_hasher(alloc, pool.hash_key());
     for at in 0..nodes.len() {
         let node = nth(nodes, at);
         add_class(alloc, &mut classes, pool.node(node), node)?;

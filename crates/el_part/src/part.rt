@@ -13,6 +13,7 @@ use crate::closure::occurring_nodes;
 use crate::fragment::unused_count;
 use crate::roots::{named_roots, push_nodes};
 use expr_pool::{Node, Pool};
+use hash_key::HashKey;
 use indexmap::IndexMap;
 use owl_ontology::Ontology;
 use rel_io::{Iri, NoMemory};
@@ -25,7 +26,7 @@ use std::marker::Model;
 pub struct ElPart {
     axioms: Vec<ElAxiom>,
     occurring: Vec<Node>,
-    classes: IndexMap<Iri, Node>,
+    classes: IndexMap<Iri, Node, HashKey>,
     unused: u64,
 }
 

@@ -11,13 +11,14 @@ use el_numbers::{NumberedPart, Shape};
 use el_part::{ElAxiom, ElPart};
 use expr_pool::{Cell, Pool};
 use fact_rows::Numbers;
+use hash_key::HashKey;
 use indexmap::IndexSet;
 use rel_io::{Iri, NoMemory};
 use std::alloc::Global;
 
 /// The shape of a cell.
 #[tactic(auto, unfolding(crate::specs::inner::Numbers::shape_in))]
-fn shape_of(roles: &IndexSet<Iri>, numbers: &[u32], cell: &Cell) -> Shape
+fn shape_of(roles: &IndexSet<Iri, HashKey>, numbers: &[u32], cell: &Cell) -> Shape
     requires { length roles.now.keys < 2 ^ 32 }
     ensures { result ≡ spec.shape_in numbers.now roles.now.keys cell.now }
 {
@@ -61,7 +62,7 @@ fn operands_of(alloc: Global, numbers: &[u32], cell: &Cell) -> Result<Numbers, N
 /// One expression more.
 fn push_expression(
     alloc: Global,
-    roles: &IndexSet<Iri>,
+    roles: &IndexSet<Iri, HashKey>,
     numbers: &[u32],
     cell: &Cell,
     shapes: &mut Vec<Shape>,
@@ -83,7 +84,7 @@ fn expressions(
     alloc: Global,
     part: &ElPart,
     pool: &Pool,
-    roles: &IndexSet<Iri>,
+    roles: &IndexSet<Iri, HashKey>,
     numbers: &[u32],
 ) -> Result<(Vec<Shape>, Vec<Numbers>), NoMemory>
     requires fits { FitsPool pool.now part.now }
@@ -170,7 +171,7 @@ fn disjoints(alloc: Global, part: &ElPart, numbers: &[u32]) -> Result<Vec<(u32, 
 #[tactic(auto, unfolding(crate::specs::inner::Numbers::sub_role_in))]
 fn push_sub_role(
     made: &mut Vec<(u32, u32)>,
-    roles: &IndexSet<Iri>,
+    roles: &IndexSet<Iri, HashKey>,
     from: &ElAxiom,
 ) -> Result<(), NoMemory>
     requires { length roles.now.keys < 2 ^ 32 }
@@ -193,7 +194,7 @@ fn push_sub_role(
 fn sub_roles(
     alloc: Global,
     part: &ElPart,
-    roles: &IndexSet<Iri>,
+    roles: &IndexSet<Iri, HashKey>,
 ) -> Result<Vec<(u32, u32)>, NoMemory>
     requires { length roles.now.keys < 2 ^ 32 }
     ensures { IfOk result (λ made. made.items ≡ flat_map (spec.sub_role_in roles.now.keys) part.now.axioms) }
@@ -209,7 +210,7 @@ fn sub_roles(
 #[tactic(auto, unfolding(crate::specs::inner::Numbers::chain_in))]
 fn push_chain(
     made: &mut Vec<(u32, u32, u32)>,
-    roles: &IndexSet<Iri>,
+    roles: &IndexSet<Iri, HashKey>,
     from: &ElAxiom,
 ) -> Result<(), NoMemory>
     requires { length roles.now.keys < 2 ^ 32 }
@@ -236,7 +237,7 @@ fn push_chain(
 fn chains(
     alloc: Global,
     part: &ElPart,
-    roles: &IndexSet<Iri>,
+    roles: &IndexSet<Iri, HashKey>,
 ) -> Result<Vec<(u32, u32, u32)>, NoMemory>
     requires { length roles.now.keys < 2 ^ 32 }
     ensures { IfOk result (λ made. made.items ≡ flat_map (spec.chain_in roles.now.keys) part.now.axioms) }
@@ -253,7 +254,7 @@ fn chains(
 fn push_domain(
     made: &mut Vec<(u32, u32)>,
     numbers: &[u32],
-    roles: &IndexSet<Iri>,
+    roles: &IndexSet<Iri, HashKey>,
     from: &ElAxiom,
 ) -> Result<(), NoMemory>
     requires { length roles.now.keys < 2 ^ 32 }
@@ -277,7 +278,7 @@ fn domains(
     alloc: Global,
     part: &ElPart,
     numbers: &[u32],
-    roles: &IndexSet<Iri>,
+    roles: &IndexSet<Iri, HashKey>,
 ) -> Result<Vec<(u32, u32)>, NoMemory>
     requires { length roles.now.keys < 2 ^ 32 }
     ensures { IfOk result (λ made. made.items ≡ flat_map (spec.domain_in numbers.now roles.now.keys) part.now.axioms) }
@@ -294,7 +295,7 @@ pub(crate) fn part_over(
     alloc: Global,
     part: &ElPart,
     pool: &Pool,
-    roles: &IndexSet<Iri>,
+    roles: &IndexSet<Iri, HashKey>,
     numbers: &[u32],
 ) -> Result<NumberedPart, NoMemory>
     requires fits { FitsPool pool.now part.now }

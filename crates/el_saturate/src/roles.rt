@@ -9,12 +9,13 @@ ghost use Rattle.std.specs.List.{flat_map};
 
 use el_part::{ElAxiom, ElPart};
 use expr_pool::{Cell, Pool};
+use hash_key::HashKey;
 use indexmap::IndexSet;
 use rel_io::{Dup, Iri, NoMemory};
 use std::alloc::Global;
 
 /// One role more.
-fn add_role(alloc: Global, roles: &mut IndexSet<Iri>, role: &Iri) -> Result<(), NoMemory>
+fn add_role(alloc: Global, roles: &mut IndexSet<Iri, HashKey>, role: &Iri) -> Result<(), NoMemory>
     ensures { OnOk result (roles.new.keys ≡ insert_key spec.same_iri roles.old.keys role.now) }
 {
     let role = role.copy(alloc)?;
@@ -24,7 +25,7 @@ fn add_role(alloc: Global, roles: &mut IndexSet<Iri>, role: &Iri) -> Result<(), 
 
 /// The roles in an axiom.
 #[tactic(auto, unfolding(crate::specs::inner::Numbers::roles_in))]
-fn add_roles_in(alloc: Global, roles: &mut IndexSet<Iri>, from: &ElAxiom) -> Result<(), NoMemory>
+fn add_roles_in(alloc: Global, roles: &mut IndexSet<Iri, HashKey>, from: &ElAxiom) -> Result<(), NoMemory>
     ensures { OnOk result (roles.new.keys ≡ insert_all spec.same_iri roles.old.keys (spec.roles_in from.now)) }
 {
     match from {
@@ -45,7 +46,7 @@ fn add_roles_in(alloc: Global, roles: &mut IndexSet<Iri>, from: &ElAxiom) -> Res
 
 /// The role in a cell, if it is a restriction.
 #[tactic(auto, unfolding(crate::specs::inner::Numbers::role_in))]
-fn add_role_of(alloc: Global, roles: &mut IndexSet<Iri>, cell: &Cell) -> Result<(), NoMemory>
+fn add_role_of(alloc: Global, roles: &mut IndexSet<Iri, HashKey>, cell: &Cell) -> Result<(), NoMemory>
     ensures { OnOk result (roles.new.keys ≡ insert_all spec.same_iri roles.old.keys (spec.role_in cell.now)) }
 {
     match cell {
@@ -64,11 +65,15 @@ fn add_role_of(alloc: Global, roles: &mut IndexSet<Iri>, cell: &Cell) -> Result<
 }
 
 /// The roles in the axioms of a part.
-fn axiom_roles(alloc: Global, part: &ElPart) -> Result<IndexSet<Iri>, NoMemory>
+fn axiom_roles(
+    alloc: Global,
+    hash_key: HashKey,
+    part: &ElPart,
+) -> Result<IndexSet<Iri, HashKey>, NoMemory>
     ensures once { IfOk result (λ roles. NoRepeats roles.keys) }
     ensures roles { IfOk result (λ roles. spec.HasRoles roles.keys (flat_map spec.roles_in part.now.axioms)) }
 {
-    let mut roles = IndexSet::new(alloc);
+    let mut roles = IndexSet::with_hasher(alloc, hash_key);
     for at in 0..part.axioms() {
         add_roles_in(alloc, &mut roles, part.axiom(at))?;
     }
@@ -80,13 +85,13 @@ pub(crate) fn part_roles(
     alloc: Global,
     part: &ElPart,
     pool: &Pool,
-) -> Result<IndexSet<Iri>, NoMemory>
+) -> Result<IndexSet<Iri, HashKey>, NoMemory>
     requires { FitsPool pool.now part.now }
     ensures once { IfOk result (λ roles. NoRepeats roles.keys) }
     ensures axioms { IfOk result (λ roles. spec.HasRoles roles.keys (flat_map spec.roles_in part.now.axioms)) }
     ensures restrictions { IfOk result (λ roles. spec.HasRestrictions (map (tree_at pool.now) part.now.occurring) roles.keys) }
 {
-    let mut roles = axiom_roles(alloc, part)?;
+    let mut roles = axiom_roles(alloc, pool.hash_key(), part)?;
     for at in 0..part.occurring() {
         add_role_of(alloc, &mut roles, pool.node(part.occurs(at)))?;
     }
@@ -94,7 +99,7 @@ pub(crate) fn part_roles(
 }
 
 /// The number of a role.
-pub(crate) fn role_of(roles: &IndexSet<Iri>, role: &Iri) -> u32
+pub(crate) fn role_of(roles: &IndexSet<Iri, HashKey>, role: &Iri) -> u32
     requires { length roles.now.keys < 2 ^ 32 }
     ensures { result ≡ spec.role_of roles.now.keys role.now }
 {

@@ -44,7 +44,7 @@ pub fn saturate(alloc: Global, part: &ElPart, pool: &Pool, limit: u64) -> Result
     }
     let numbers = number_nodes(alloc, part, pool.len())?;
     let over = part_over(alloc, part, pool, &roles, numbers.as_slice())?;
-    match el_numbers::saturate(alloc, &over, limit) {
+    match el_numbers::saturate(alloc, pool.hash_key(), &over, limit) {
         Ok(table) => Ok(Table::of(numbers, roles, table)),
         Err(fault) => Err(told(fault)),
     }

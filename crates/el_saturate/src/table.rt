@@ -6,6 +6,7 @@ ghost use Rattle.el_saturate.specs.Table.{SaysBelow, SaysLink};
 use el_numbers::Table as NumberTable;
 use expr_pool::Node;
 use fact_rows::NumberSet;
+use hash_key::HashKey;
 use indexmap::IndexSet;
 use rel_io::Iri;
 use std::marker::Model;
@@ -15,7 +16,7 @@ use std::marker::Model;
 #[derive(Drop)]
 pub struct Table {
     numbers: Vec<u32>,
-    roles: IndexSet<Iri>,
+    roles: IndexSet<Iri, HashKey>,
     table: NumberTable,
 }
 
@@ -39,7 +40,7 @@ fn number_at(numbers: &[u32], node: Node) -> Option<u32>
 
 impl Table {
     /// The table of these numbers and facts.
-    pub(crate) fn of(numbers: Vec<u32>, roles: IndexSet<Iri>, table: NumberTable) -> Table
+    pub(crate) fn of(numbers: Vec<u32>, roles: IndexSet<Iri, HashKey>, table: NumberTable) -> Table
         requires { length roles.keys < 2 ^ 32 }
         ensures { result ≡ record { numbers = numbers.items; roles = roles.keys; table = table } }
     {

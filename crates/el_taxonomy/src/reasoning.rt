@@ -16,6 +16,7 @@ use crate::{Edge, ReasonFault};
 use el_part::{ElPart, el_part};
 use el_saturate::{SatFault, Table, saturate};
 use expr_pool::Pool;
+use hash_key::HashKey;
 use indexmap::IndexSet;
 use owl_axioms::{Body, ClassExpr};
 use owl_ontology::Ontology;
@@ -47,7 +48,7 @@ pub fn reason(alloc: Global, ontology: &mut Ontology, limit: u64) -> Result<Reas
     ensures refused { IfErr result (IsRefused ontology.old limit) }
     ensures unchanged { OnErr result (ontology.new ≡ ontology.old) }
 {
-    let mut pool = Pool::new(alloc)?;
+    let mut pool = Pool::new(alloc, ontology.hash_key())?;
     let part = el_part(alloc, ontology, &mut pool)?;
     match saturate(alloc, &part, &pool, limit) {
         Ok(table) => match judged(alloc, ontology, &part, &pool, &table) {
@@ -103,7 +104,7 @@ fn with_edges(
     ensures unchanged { OnErr result (ontology.new ≡ ontology.old) }
 {
     let edges = direct_edges(alloc, ontology, part, pool, table)?;
-    let bodies = inclusions(alloc, edges.as_slice())?;
+    let bodies = inclusions(alloc, ontology.hash_key(), edges.as_slice())?;
     drop(edges);
     let _proper = ontology.len();
     add_all(alloc, ontology, &bodies)?;
@@ -114,10 +115,14 @@ fn with_edges(
 }
 
 /// The inclusions that edges stand for, in their order.
-fn inclusions(alloc: Global, edges: &[Edge]) -> Result<IndexSet<Body>, NoMemory>
+fn inclusions(
+    alloc: Global,
+    hash_key: HashKey,
+    edges: &[Edge],
+) -> Result<IndexSet<Body, HashKey>, NoMemory>
     ensures { IfOk result (λ bodies. bodies.keys ≡ said_of_all edges.now) }
 {
-    let mut bodies = IndexSet::new(alloc);
+    let mut bodies = IndexSet::with_hasher(alloc, hash_key);
     for one in edges {
         push_inclusion(alloc, &mut bodies, one)?;
     }
@@ -125,7 +130,7 @@ fn inclusions(alloc: Global, edges: &[Edge]) -> Result<IndexSet<Body>, NoMemory>
 }
 
 /// Adds the inclusion that an edge stands for.
-fn push_inclusion(alloc: Global, bodies: &mut IndexSet<Body>, one: &Edge) -> Result<(), NoMemory>
+fn push_inclusion(alloc: Global, bodies: &mut IndexSet<Body, HashKey>, one: &Edge) -> Result<(), NoMemory>
     ensures { OnOk result (bodies.new.keys ≡ insert_all same_body bodies.old.keys (said_of one.now ∷ [])) }
 {
     let sub = one.sub.copy(alloc)?;

@@ -5,6 +5,7 @@ ghost use Rattle.expr_pool.specs.Pool.{AreDifferent, Grew, IsBefore, tree_at, tr
 
 use crate::intern::node_of_tree;
 use crate::{Cell, Node};
+use hash_key::HashKey;
 use indexmap::IndexSet;
 use owl_axioms::ClassExpr;
 use rel_io::NoMemory;
@@ -15,7 +16,7 @@ use std::marker::Model;
 #[derive(Drop)]
 pub struct Pool {
     alloc: Global,
-    pub(crate) cells: IndexSet<Cell>,
+    pub(crate) cells: IndexSet<Cell, HashKey>,
 }
 
 impl Model for Pool {
@@ -36,12 +37,12 @@ impl Model for Pool {
 
 impl Pool {
     /// A pool without nodes.
-    pub fn new(alloc: Global) -> Result<Pool, NoMemory>
+    pub fn new(alloc: Global, hash_key: HashKey) -> Result<Pool, NoMemory>
         ensures { IfOk result (λ p. p ≡ []) }
     {
         Ok(Pool {
             alloc,
-            cells: IndexSet::new(alloc),
+            cells: IndexSet::with_hasher(alloc, hash_key),
         })
     }
 
@@ -110,6 +111,11 @@ impl Pool {
         ensures { result.place ≡ place }
     {
         Node { place }
+    }
+
+    /// The key with which its table hashes.
+    pub fn hash_key(&self) -> HashKey {
+        *self.cells.hasher()
     }
 
     /// Takes all nodes out.

@@ -51,7 +51,7 @@ fn has_iri(names: &Sig, iri: &Iri) -> bool
 fn names_in(alloc: Global, ontology: &Ontology) -> Result<Sig, NoMemory>
     ensures { IfOk result (λ names. (iri : List ℕ) → has_iri (scope_of names) iri ≡ is_known (axioms_of ontology.now.entries) iri) }
 {
-    let mut names = Sig::new(alloc)?;
+    let mut names = Sig::new(alloc, ontology.hash_key())?;
     for at in 0..ontology.len() {
         add_known(alloc, ontology.get(at), &mut names)?;
     }

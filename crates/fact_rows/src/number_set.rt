@@ -3,6 +3,7 @@ ghost use Rattle.std.specs.Prelude.{◌≡◌, [], IfOk, OnErr, nat_eq};
 ghost use Rattle.std.specs.List.{list_any};
 ghost use Rattle.fact_rows.specs.Rows.{Inserts};
 
+use hash_key::HashKey;
 use indexmap::IndexSet;
 use std::alloc::{AllocError, Global};
 use std::marker::Model;
@@ -10,7 +11,7 @@ use std::marker::Model;
 /// A set of numbers, seen as the list of them in the order in which they came.
 #[derive(Drop)]
 pub struct NumberSet {
-    set: IndexSet<u32>,
+    set: IndexSet<u32, HashKey>,
 }
 
 impl Model for NumberSet {
@@ -23,11 +24,11 @@ impl Model for NumberSet {
 
 impl NumberSet {
     /// A set without numbers.
-    pub fn new(alloc: Global) -> NumberSet
+    pub fn new(alloc: Global, hash_key: HashKey) -> NumberSet
         ensures { result ≡ [] }
     {
         NumberSet {
-            set: IndexSet::new(alloc),
+            set: IndexSet::with_hasher(alloc, hash_key),
         }
     }
 

@@ -29,7 +29,7 @@ pub fn join(
     let Translated {
         ontology: said,
         dropped,
-    } = translate(alloc, document, place)?;
+    } = translate(alloc, ontology.hash_key(), document, place)?;
     if place == 0 {
         *ontology = said;
     } else {

@@ -13,6 +13,7 @@ ghost use Rattle.import_merge.specs.inner.Joining.{Joins, KeepsSpelling};
 use crate::frames::frame_count;
 use crate::joining::join;
 use crate::{FileNote, Merged};
+use hash_key::HashKey;
 use import_closure::{LoadFault, SourceFile, read_files};
 use owl_ontology::Ontology;
 use rel_io::{Bytes, Dup, Folder, Items, Limits, NoMemory};
@@ -23,6 +24,7 @@ use std::alloc::Global;
 /// so the time goes by the bytes that are read, but for sorts.
 pub fn load<F: Folder>(
     alloc: Global,
+    hash_key: HashKey,
     folder: &mut F,
     inputs: &[Bytes],
     catalog: Option<&Bytes>,
@@ -36,7 +38,7 @@ pub fn load<F: Folder>(
 {
     let sources = read_files(alloc, folder, inputs, catalog, limits)?;
     let _few = file_limit(limits);
-    let merged = merged(alloc, sources.as_slice())?;
+    let merged = merged(alloc, hash_key, sources.as_slice())?;
     Ok(merged)
 }
 
@@ -49,12 +51,16 @@ fn file_limit(limits: &Limits) -> u32
 }
 
 /// The ontology of files, with a note of each.
-fn merged(alloc: Global, sources: &[SourceFile]) -> Result<Merged, NoMemory>
+fn merged(
+    alloc: Global,
+    hash_key: HashKey,
+    sources: &[SourceFile],
+) -> Result<Merged, NoMemory>
     requires few { length sources.now < 2 ^ 32 }
     ensures loaded { IfOk result (IsLoaded sources.now) }
     ensures spellable { IfOk result (λ merged. IsSpellable merged.ontology.name (axioms_of merged.ontology.entries)) }
 {
-    let mut ontology = Ontology::new(alloc, None)?;
+    let mut ontology = Ontology::new(alloc, hash_key, None)?;
     let mut files = Vec::with_capacity(alloc, sources.len())?;
     for place in 0..sources.len() {
         let note = join_file(alloc, &mut ontology, &sources[place], place as u32)?;
@@ -65,12 +71,16 @@ fn merged(alloc: Global, sources: &[SourceFile]) -> Result<Merged, NoMemory>
 }
 
 /// The ontology of one file alone, with a note of it.
-pub fn merge_file(alloc: Global, source: &SourceFile) -> Result<(Ontology, FileNote), NoMemory>
+pub fn merge_file(
+    alloc: Global,
+    hash_key: HashKey,
+    source: &SourceFile,
+) -> Result<(Ontology, FileNote), NoMemory>
     ensures merged { IfOk result (λ made. IsMerged (source.now ∷ []) made.0) }
     ensures note { IfOk result (λ made. made.1 ≡ file_note source.now) }
     ensures spellable { IfOk result (λ made. IsSpellable made.0.name (axioms_of made.0.entries)) }
 {
-    let mut ontology = Ontology::new(alloc, None)?;
+    let mut ontology = Ontology::new(alloc, hash_key, None)?;
     let note = join_file(alloc, &mut ontology, source, 0)?;
     Ok((ontology, note))
 }

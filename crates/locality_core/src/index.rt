@@ -75,7 +75,7 @@ pub(crate) fn index_of(alloc: Global, pool: &Pool) -> Result<Index, NoMemory>
 {
     let count = pool.len();
     let mut wholes = Lists::new(alloc, count as usize)?;
-    let mut uses = NamedLists::new(alloc)?;
+    let mut uses = NamedLists::new(alloc, pool.hash_key())?;
     'nodes: for at in 0..count {
         let cell = pool.node(pool.at(at));
         add_parts(&mut wholes, cell.parts(), at)?;

@@ -47,7 +47,7 @@ fn tell(alloc: Global, table: &mut NamedLists, one: &Axiom, at: u64) -> Result<(
     ensures { OnOk result (IsTold table.old (body_names one.now.body) at (added no_names (body_names one.now.body)) table.new) }
 {
     let names = names_in_body(alloc, &one.body)?;
-    let mut seen = Sig::new(alloc)?;
+    let mut seen = Sig::new(alloc, table.hash_key())?;
     'names: for name in names.as_slice() {
         tell_one(table, &mut seen, name, at)?;
     }
@@ -95,9 +95,9 @@ pub(crate) fn setting_of(
     requires { length part.now.items ≡ length ontology.now.entries }
     ensures { IfOk result (λ s. IsSetting (axioms_of ontology.now.entries) part.now.items s.pool s.plains.items s.table s.all.items) }
 {
-    let mut pool = Pool::new(alloc)?;
+    let mut pool = Pool::new(alloc, ontology.hash_key())?;
     let mut plains = Vec::new(alloc);
-    let mut table = NamedLists::new(alloc)?;
+    let mut table = NamedLists::new(alloc, ontology.hash_key())?;
     let mut all = Vec::new(alloc);
     'axioms: for at in 0..ontology.len() {
         let one = ontology.get(at);

@@ -3,6 +3,7 @@ ghost use Rattle.std.specs.Prelude.{◌≡◌, ◌<◌, [], IfOk, None, OnOk, ge
 ghost use Rattle.name_lists.specs.Lists.{HaveLists, IsAdded, place_of};
 
 use crate::Lists;
+use hash_key::HashKey;
 use indexmap::IndexMap;
 use owl_axioms::Name;
 use rel_io::{Dup, NoMemory};
@@ -14,7 +15,7 @@ use std::marker::Model;
 #[derive(Drop)]
 pub struct NamedLists {
     alloc: Global,
-    places: IndexMap<Name, usize>,
+    places: IndexMap<Name, usize, HashKey>,
     lists: Lists,
 }
 
@@ -30,16 +31,21 @@ impl Model for NamedLists {
 
 impl NamedLists {
     /// No name has a list.
-    pub fn new(alloc: Global) -> Result<NamedLists, NoMemory>
+    pub fn new(alloc: Global, hash_key: HashKey) -> Result<NamedLists, NoMemory>
         ensures lists { IfOk result (λ n. n.lists ≡ []) }
         ensures none { IfOk result (λ n. (name : Name) → place_of n name ≡ None) }
     {
         let lists = Lists::new(alloc, 0)?;
         Ok(NamedLists {
             alloc,
-            places: IndexMap::new(alloc),
+            places: IndexMap::with_hasher(alloc, hash_key),
             lists,
         })
+    }
+
+    /// The key with which its table hashes.
+    pub fn hash_key(&self) -> HashKey {
+        *self.places.hasher()
     }
 
     /// How many names have a list.

@@ -8,6 +8,7 @@ ghost use Rattle.obo_mapping.specs.Documents as documents;
 
 use crate::header::header;
 use crate::kept::kept;
+use hash_key::HashKey;
 use iri_map::name_or_temp;
 use obo_frames::{Document, Placed, ontology_name};
 use obo_spelling::spelled;
@@ -17,33 +18,33 @@ use std::alloc::Global;
 
 /// The normal form of the document: its header, what of it says no axiom, and the clauses that say its axioms. The order of
 /// its clauses means nothing, and no line is given to them. It takes time in proportion to the document, but for sorts.
-pub fn norm(alloc: Global, document: &Document) -> Result<Document, NoMemory>
+pub fn norm(alloc: Global, hash_key: HashKey, document: &Document) -> Result<Document, NoMemory>
     ensures exact { IfOk result (λ made. SameMembers (map unlined made) (documents.norm (map unlined document.now))) }
 {
     // The length tells what every document keeps.
     let _count = document.len();
-    let placed = clauses_of(alloc, document)?;
+    let placed = clauses_of(alloc, hash_key, document)?;
     Ok(Document::of(placed))
 }
 
 /// The clauses of the normal form.
-fn clauses_of(alloc: Global, document: &Document) -> Result<Vec<Placed>, NoMemory>
+fn clauses_of(alloc: Global, hash_key: HashKey, document: &Document) -> Result<Vec<Placed>, NoMemory>
     ensures { IfOk result (λ made. SameMembers (map unlined made.items) (documents.norm (map unlined document.now))) }
 {
     let mut placed = header(alloc, document.as_slice())?;
-    let mut kept = kept_clauses(alloc, document)?;
+    let mut kept = kept_clauses(alloc, hash_key, document)?;
     placed.append(&mut kept)?;
-    let mut spelled = spelled_clauses(alloc, document)?;
+    let mut spelled = spelled_clauses(alloc, hash_key, document)?;
     placed.append(&mut spelled)?;
     Ok(placed)
 }
 
 /// The clauses that say no axiom.
-fn kept_clauses(alloc: Global, document: &Document) -> Result<Vec<Placed>, NoMemory>
+fn kept_clauses(alloc: Global, hash_key: HashKey, document: &Document) -> Result<Vec<Placed>, NoMemory>
     ensures { IfOk result (λ made. map unlined made.items ≡ documents.kept (map unlined document.now)) }
 {
     let space = space_of(alloc, document)?;
-    let untranslated = untranslated(alloc, document)?;
+    let untranslated = untranslated(alloc, hash_key, document)?;
     kept(alloc, &space, document, untranslated.as_slice())
 }
 
@@ -56,11 +57,11 @@ fn space_of(alloc: Global, document: &Document) -> Result<Bytes, NoMemory>
 }
 
 /// The clauses that say the axioms.
-fn spelled_clauses(alloc: Global, document: &Document) -> Result<Vec<Placed>, NoMemory>
+fn spelled_clauses(alloc: Global, hash_key: HashKey, document: &Document) -> Result<Vec<Placed>, NoMemory>
     ensures { IfOk result (λ made. SameMembers (map unlined made.items)
         (documents.spelled (writing_in (documents.space_of (map unlined document.now))) (documents.owl (map unlined document.now)))) }
 {
-    let translated = translate(alloc, document, 0)?;
+    let translated = translate(alloc, hash_key, document, 0)?;
     let spelling = spelled(alloc, &translated.ontology)?;
     Ok(spelling.placed)
 }

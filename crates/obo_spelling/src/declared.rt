@@ -7,6 +7,7 @@ ghost use Rattle.text_sets.specs.Sets.{SameMembers};
 ghost use Rattle.obo_mapping.specs.Axioms.{is_declared};
 ghost use Rattle.obo_mapping.specs.Documents.{declared_in};
 
+use hash_key::HashKey;
 use indexmap::IndexSet;
 use owl_axioms::{Axiom, Body, Name};
 use owl_ontology::Ontology;
@@ -17,7 +18,7 @@ use std::marker::Model;
 /// The entities that an ontology declares: seen as a list of them, each once.
 #[derive(Drop)]
 pub struct Declared {
-    names: IndexSet<Name>,
+    names: IndexSet<Name, HashKey>,
 }
 
 impl Model for Declared {
@@ -34,7 +35,7 @@ impl Declared {
     pub fn of(alloc: Global, ontology: &Ontology) -> Result<Declared, NoMemory>
         ensures { IfOk result (λ declared. SameMembers declared (filter_map declared_in (axioms_of ontology.now.entries))) }
     {
-        let mut names = IndexSet::new(alloc);
+        let mut names = IndexSet::with_hasher(alloc, ontology.hash_key());
         for at in 0..ontology.len() {
             note(alloc, &mut names, ontology.get(at))?;
         }
@@ -50,7 +51,7 @@ impl Declared {
 }
 
 /// Adds the entity that an axiom declares.
-fn note(alloc: Global, names: &mut IndexSet<Name>, stated: &Axiom) -> Result<(), NoMemory>
+fn note(alloc: Global, names: &mut IndexSet<Name, HashKey>, stated: &Axiom) -> Result<(), NoMemory>
     ensures { OnOk result (SameMembers names.new.keys (names.old.keys ++ option_to_list (declared_in stated.now))) }
 {
     match &stated.body {
@@ -63,7 +64,7 @@ fn note(alloc: Global, names: &mut IndexSet<Name>, stated: &Axiom) -> Result<(),
 }
 
 /// Adds an entity, unless it is there.
-fn add(names: &mut IndexSet<Name>, name: Name) -> Result<(), NoMemory>
+fn add(names: &mut IndexSet<Name, HashKey>, name: Name) -> Result<(), NoMemory>
     ensures { OnOk result (SameMembers names.new.keys (names.old.keys ++ name ∷ [])) }
 {
     names.insert(name)?;

@@ -8,6 +8,7 @@ ghost use Rattle.obo_to_owl.specs.inner.Left.{is_left};
 use crate::parted::is_left;
 use crate::rows::{Row, iris_of, rows_of};
 use crate::situation::{Situation, situation_of};
+use hash_key::HashKey;
 use iri_map::name_or_temp;
 use obo_frames::{Document, Placed, ontology_name};
 use rel_io::{Bytes, NoMemory};
@@ -15,18 +16,23 @@ use std::alloc::Global;
 
 /// Of each clause of the document, in their order, whether it is not translated. It takes time in proportion to the
 /// document.
-pub fn untranslated(alloc: Global, document: &Document) -> Result<Vec<bool>, NoMemory>
+pub fn untranslated(
+    alloc: Global,
+    hash_key: HashKey,
+    document: &Document,
+) -> Result<Vec<bool>, NoMemory>
     ensures { IfOk result (λ flags. flags.items ≡
         map (λ one. is_untranslatable (map unlined document.now) (unlined one)) document.now) }
 {
     let name = ontology_name(alloc, document)?;
     let space = name_or_temp(alloc, name.as_ref())?;
-    flags_in(alloc, name, &space, document.as_slice())
+    flags_in(alloc, hash_key, name, &space, document.as_slice())
 }
 
 /// The same in an ontology of this name.
 fn flags_in(
     alloc: Global,
+    hash_key: HashKey,
     name: Option<Bytes>,
     space: &Bytes,
     placed: &[Placed],
@@ -38,7 +44,7 @@ fn flags_in(
 {
     let iris = iris_of(alloc, space, placed)?;
     let rows = rows_of(alloc, space, placed, &iris)?;
-    let situation = situation_of(alloc, name, rows.as_slice())?;
+    let situation = situation_of(alloc, hash_key, name, rows.as_slice())?;
     each_flag(alloc, &situation, rows.as_slice())
 }
 

@@ -14,6 +14,7 @@ ghost use Rattle.obo_to_owl.specs.inner.Grouping.{Grouped, gather, gather_all, g
 use crate::clauses::add;
 use crate::misfit::is_of_group;
 use crate::rows::Row;
+use hash_key::HashKey;
 use indexmap::IndexMap;
 use obo_clause::Clause;
 use obo_statements::{Group, group_of};
@@ -33,14 +34,15 @@ pub struct Gathered<'a> {
 /// All groups of a kind, by the IRIs of their Terms.
 pub fn groups_of<'a>(
     alloc: Global,
+    hash_key: HashKey,
     rows: &[Row<'a>],
     group: Group,
-) -> Result<IndexMap<Iri, Gathered<'a>>, NoMemory>
+) -> Result<IndexMap<Iri, Gathered<'a>, HashKey>, NoMemory>
     ensures members { IfOk result (λ groups. (x : List ℕ) → group_in groups x ≡
         gather_all (group_rows (group_meant group) x rows.now)) }
     ensures unique { IfOk result (IsUnique bytes_eq) }
 {
-    let mut groups = IndexMap::new(alloc);
+    let mut groups = IndexMap::with_hasher(alloc, hash_key);
     for row in rows {
         keep(alloc, &mut groups, group, row)?;
     }
@@ -50,7 +52,7 @@ pub fn groups_of<'a>(
 /// Adds a clause, where it is one of a group of the kind.
 fn keep<'a>(
     alloc: Global,
-    groups: &mut IndexMap<Iri, Gathered<'a>>,
+    groups: &mut IndexMap<Iri, Gathered<'a>, HashKey>,
     group: Group,
     row: &Row<'a>,
 ) -> Result<(), NoMemory>
@@ -69,7 +71,7 @@ fn keep<'a>(
 /// Adds a clause to its group.
 fn join<'a>(
     alloc: Global,
-    groups: &mut IndexMap<Iri, Gathered<'a>>,
+    groups: &mut IndexMap<Iri, Gathered<'a>, HashKey>,
     row: &Row<'a>,
 ) -> Result<(), NoMemory>
     ensures members { OnOk result ((x : List ℕ) → group_in groups.new x ≡
@@ -133,7 +135,7 @@ pub fn add_groups(
     space: &Bytes,
     file: u32,
     group: Group,
-    groups: &IndexMap<Iri, Gathered>,
+    groups: &IndexMap<Iri, Gathered, HashKey>,
     ontology: &mut Ontology,
 ) -> Result<(), NoMemory>
     requires { (one : Grouped) (said : Axiom) → In one groups.now.entries
@@ -150,7 +152,7 @@ pub fn add_groups(
 
 /// The group at a place.
 fn group_at<'a, 'b>(
-    groups: &'b IndexMap<Iri, Gathered<'a>>,
+    groups: &'b IndexMap<Iri, Gathered<'a>, HashKey>,
     at: usize,
 ) -> (&'b Iri, &'b Gathered<'a>)
     requires { at < length groups.now.entries }

@@ -16,6 +16,7 @@ use crate::misfit::has_tag;
 use crate::rows::Row;
 use crate::situation::Situation;
 use crate::spaces::{add_name, declared_in, entity_of, has_name, keeps, spaced_in, spacing};
+use hash_key::HashKey;
 use indexmap::{IndexMap, IndexSet};
 use owl_axioms::{Axiom, Name};
 use owl_ontology::Ontology;
@@ -27,11 +28,11 @@ pub fn kept_names(
     alloc: Global,
     situation: &Situation,
     left: &[Row],
-) -> Result<IndexSet<Name>, NoMemory>
+) -> Result<IndexSet<Name, HashKey>, NoMemory>
     ensures { IfOk result (λ set. (x : Name) → has_name set x ≡
         list_any (name_eq x) (filter_map (name_kept situation.now) left.now)) }
 {
-    let mut names = IndexSet::new(alloc);
+    let mut names = IndexSet::with_hasher(alloc, situation.hash_key());
     for row in left {
         keep_name(alloc, &mut names, situation, row)?;
     }
@@ -41,7 +42,7 @@ pub fn kept_names(
 /// Adds the name of the frame of a clause that gives a namespace.
 fn keep_name(
     alloc: Global,
-    names: &mut IndexSet<Name>,
+    names: &mut IndexSet<Name, HashKey>,
     situation: &Situation,
     row: &Row,
 ) -> Result<(), NoMemory>
@@ -68,9 +69,9 @@ fn name_kept(alloc: Global, situation: &Situation, row: &Row) -> Result<Option<N
 /// The names that have a namespace, with others.
 pub fn spaced_names(
     alloc: Global,
-    kept: IndexSet<Name>,
+    kept: IndexSet<Name, HashKey>,
     ontology: &Ontology,
-) -> Result<IndexSet<Name>, NoMemory>
+) -> Result<IndexSet<Name, HashKey>, NoMemory>
     ensures { IfOk result (λ set. (x : Name) → has_name set x ≡ (has_name kept x
         || list_any (name_eq x) (filter_map spec.is_namespace (axioms_of ontology.now.entries)))) }
 {
@@ -82,7 +83,7 @@ pub fn spaced_names(
 }
 
 /// Adds the name that an axiom gives a namespace.
-fn space_name(alloc: Global, names: &mut IndexSet<Name>, said: &Axiom) -> Result<(), NoMemory>
+fn space_name(alloc: Global, names: &mut IndexSet<Name, HashKey>, said: &Axiom) -> Result<(), NoMemory>
     ensures { OnOk result ((x : Name) → has_name names.new x ≡
         (option_map_or (name_eq x) (spec.is_namespace said.now) false || has_name names.old x)) }
 {
@@ -98,7 +99,7 @@ fn space_name(alloc: Global, names: &mut IndexSet<Name>, said: &Axiom) -> Result
 /// The declared names that have no namespace.
 pub fn names_without(
     alloc: Global,
-    spaced: &IndexSet<Name>,
+    spaced: &IndexSet<Name, HashKey>,
     ontology: &Ontology,
 ) -> Result<Vec<Name>, NoMemory>
     ensures names { IfOk result (λ names. names.items ≡ filter (λ name. not (has_name spaced.now name))
@@ -116,7 +117,7 @@ pub fn names_without(
 fn push_name(
     alloc: Global,
     names: &mut Vec<Name>,
-    spaced: &IndexSet<Name>,
+    spaced: &IndexSet<Name, HashKey>,
     said: &Axiom,
 ) -> Result<(), NoMemory>
     ensures { OnOk result (names.new.items ≡ names.old.items
@@ -137,11 +138,11 @@ pub fn lines_of(
     alloc: Global,
     situation: &Situation,
     rows: &[Row],
-) -> Result<IndexMap<Name, u32>, NoMemory>
+) -> Result<IndexMap<Name, u32, HashKey>, NoMemory>
     ensures { IfOk result (λ lines. (x : Name) → line_in lines x ≡
         least_onto None (filter_map (line_for situation.now x) rows.now)) }
 {
-    let mut lines = IndexMap::new(alloc);
+    let mut lines = IndexMap::with_hasher(alloc, situation.hash_key());
     for row in rows {
         keep_line(alloc, &mut lines, situation, row)?;
     }
@@ -151,7 +152,7 @@ pub fn lines_of(
 /// Keeps the line of an `id` clause.
 fn keep_line(
     alloc: Global,
-    lines: &mut IndexMap<Name, u32>,
+    lines: &mut IndexMap<Name, u32, HashKey>,
     situation: &Situation,
     row: &Row,
 ) -> Result<(), NoMemory>
@@ -168,7 +169,7 @@ fn keep_line(
 }
 
 /// Keeps the least line of a name.
-fn keep_least(lines: &mut IndexMap<Name, u32>, name: Name, line: u32) -> Result<(), NoMemory>
+fn keep_least(lines: &mut IndexMap<Name, u32, HashKey>, name: Name, line: u32) -> Result<(), NoMemory>
     ensures { OnOk result ((x : Name) → line_in lines.new x ≡ keep_line x name line (line_in lines.old x)) }
 {
     let least = least_with(lines, &name, line);
@@ -177,7 +178,7 @@ fn keep_least(lines: &mut IndexMap<Name, u32>, name: Name, line: u32) -> Result<
 }
 
 /// The lesser of a line and that of a name.
-fn least_with(lines: &IndexMap<Name, u32>, name: &Name, line: u32) -> u32
+fn least_with(lines: &IndexMap<Name, u32, HashKey>, name: &Name, line: u32) -> u32
     ensures { result ≡ lesser_of (line_in lines.now name.now) line }
 {
     match lines.get(name) {
@@ -191,7 +192,7 @@ pub fn add_each(
     alloc: Global,
     file: u32,
     space: &Bytes,
-    lines: &IndexMap<Name, u32>,
+    lines: &IndexMap<Name, u32, HashKey>,
     names: &[Name],
     ontology: &mut Ontology,
 ) -> Result<(), NoMemory>
@@ -210,7 +211,7 @@ fn add_one(
     alloc: Global,
     file: u32,
     space: &Bytes,
-    lines: &IndexMap<Name, u32>,
+    lines: &IndexMap<Name, u32, HashKey>,
     name: &Name,
     ontology: &mut Ontology,
 ) -> Result<(), NoMemory>
@@ -224,7 +225,7 @@ fn add_one(
 }
 
 /// The line of a name; 0, where it has none.
-fn line_of(lines: &IndexMap<Name, u32>, name: &Name) -> u32
+fn line_of(lines: &IndexMap<Name, u32, HashKey>, name: &Name) -> u32
     ensures { result ≡ option_or_zero (line_in lines.now name.now) }
 {
     match lines.get(name) {

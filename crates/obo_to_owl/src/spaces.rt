@@ -15,6 +15,7 @@ use crate::rows::Row;
 use crate::said::{entity, kind_of};
 use crate::sets::has;
 use crate::situation::Situation;
+use hash_key::HashKey;
 use indexmap::IndexSet;
 use obo_clause::Value;
 use obo_frames::Placed;
@@ -179,14 +180,14 @@ pub fn declared_in(said: &Axiom) -> Option<&Name>
 }
 
 /// Whether the name is in the set.
-pub fn has_name(set: &IndexSet<Name>, name: &Name) -> bool
+pub fn has_name(set: &IndexSet<Name, HashKey>, name: &Name) -> bool
     ensures { result ≡ has_name set.now name.now }
 {
     set.contains(name)
 }
 
 /// Adds a name to a set.
-pub fn add_name(set: &mut IndexSet<Name>, name: Name) -> Result<(), NoMemory>
+pub fn add_name(set: &mut IndexSet<Name, HashKey>, name: Name) -> Result<(), NoMemory>
     ensures { OnOk result ((x : Name) → has_name set.new x ≡ (name_eq x name || has_name set.old x)) }
 {
     set.insert(name)?;

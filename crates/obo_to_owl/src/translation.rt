@@ -23,6 +23,7 @@ use crate::rows::{Row, iris_of, rows_of};
 use crate::situation::{Situation, situation_of};
 use crate::spacing::add_spaces;
 use crate::translated::{Translated, reports};
+use hash_key::HashKey;
 use iri_map::name_or_temp;
 use obo_frames::{Document, ontology_name};
 use obo_statements::Group;
@@ -34,7 +35,12 @@ use std::alloc::Global;
 /// The axioms of a document under its name, each with the least line that says it, and the reports of the clauses that
 /// have none, by line. A clause that stands in several frames, and a group over several frames of one Term, is one axiom;
 /// a group that has a clause without an axiom has none. It takes time in proportion to the document, but for sorts.
-pub fn translate(alloc: Global, document: &Document, file: u32) -> Result<Translated, NoMemory>
+pub fn translate(
+    alloc: Global,
+    hash_key: HashKey,
+    document: &Document,
+    file: u32,
+) -> Result<Translated, NoMemory>
     ensures name { IfOk result (λ t. t.ontology.name ≡ name_of (map unlined document.now)) }
     ensures axioms { IfOk result
         (λ t. SameMembers (axioms_of t.ontology.entries) (owl (map unlined document.now))) }
@@ -49,12 +55,13 @@ pub fn translate(alloc: Global, document: &Document, file: u32) -> Result<Transl
     let placed = document.as_slice();
     let iris = iris_of(alloc, &space, placed)?;
     let rows = rows_of(alloc, &space, placed, &iris)?;
-    of_rows(alloc, file, name, &space, rows.as_slice())
+    of_rows(alloc, hash_key, file, name, &space, rows.as_slice())
 }
 
 /// The axioms and the reports of clauses in an ontology of this name.
 fn of_rows(
     alloc: Global,
+    hash_key: HashKey,
     file: u32,
     name: Option<Bytes>,
     space: &Bytes,
@@ -71,7 +78,7 @@ fn of_rows(
     ensures dropped { IfOk result (λ t. t.dropped ≡ sorted_by report_key (map report_of
         (map clause_of (filter (λ row. is_untranslatable (map of_row rows.now) (of_row row)) rows.now)))) }
 {
-    let situation = situation_of(alloc, name, rows)?;
+    let situation = situation_of(alloc, hash_key, name, rows)?;
     let (translated, left) = parted(alloc, &situation, rows)?;
     let dropped = reports(alloc, left.as_slice())?;
     let ontology = axioms_in(
@@ -107,7 +114,7 @@ fn axioms_in(
     ensures origins { IfOk result
         (λ ontology. (entry : Entry) → In entry ontology.entries → IsPlaced file (map clause_of rows.now) entry) }
 {
-    let mut ontology = Ontology::new(alloc, situation.name.copy(alloc)?)?;
+    let mut ontology = Ontology::new(alloc, situation.hash_key(), situation.name.copy(alloc)?)?;
     add_clauses(alloc, space, file, situation, translated, &mut ontology)?;
     add_all_groups(alloc, space, file, translated, &mut ontology)?;
     add_spaces(alloc, file, situation, rows, left, &mut ontology)?;
@@ -149,7 +156,7 @@ fn add_kind(
     requires { AreProperGroups space.now (group_meant group) translated.now }
     ensures { OnOk result (AreGroupsAdded space.now file (group_meant group) translated.now ontology.old ontology.new) }
 {
-    let groups = groups_of(alloc, translated, group)?;
+    let groups = groups_of(alloc, ontology.hash_key(), translated, group)?;
     add_groups(alloc, space, file, group, &groups, ontology)?;
     Ok(())
 }

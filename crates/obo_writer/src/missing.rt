@@ -13,6 +13,7 @@ ghost use Rattle.obo_mapping.specs.Back.{back, writing_of};
 ghost use Rattle.obo_mapping.specs.Documents as spec;
 ghost use Rattle.obo_writer.specs.inner.Missing.{all_spaced, clauses_spaced, has_name, name_eq, names_without, spacing};
 
+use hash_key::HashKey;
 use indexmap::IndexSet;
 use iri_map::name_or_temp;
 use obo_frames::Placed;
@@ -88,11 +89,11 @@ fn lesser(alloc: Global, least: Option<Bytes>, text: &Bytes) -> Result<Bytes, No
 }
 
 /// The names that have a namespace.
-fn spaced_names(alloc: Global, ontology: &Ontology) -> Result<IndexSet<Name>, NoMemory>
+fn spaced_names(alloc: Global, ontology: &Ontology) -> Result<IndexSet<Name, HashKey>, NoMemory>
     ensures { IfOk result (λ set. (x : Name) → has_name set x ≡
         list_any (name_eq x) (filter_map spec.is_namespace (axioms_of ontology.now.entries))) }
 {
-    let mut names = IndexSet::new(alloc);
+    let mut names = IndexSet::with_hasher(alloc, ontology.hash_key());
     for at in 0..ontology.len() {
         space_name(alloc, &mut names, ontology.get(at))?;
     }
@@ -100,7 +101,7 @@ fn spaced_names(alloc: Global, ontology: &Ontology) -> Result<IndexSet<Name>, No
 }
 
 /// Adds the name that an axiom gives a namespace.
-fn space_name(alloc: Global, names: &mut IndexSet<Name>, said: &Axiom) -> Result<(), NoMemory>
+fn space_name(alloc: Global, names: &mut IndexSet<Name, HashKey>, said: &Axiom) -> Result<(), NoMemory>
     ensures { OnOk result ((x : Name) → has_name names.new x ≡
         (option_map_or (name_eq x) (spec.is_namespace said.now) false || has_name names.old x)) }
 {
@@ -116,7 +117,7 @@ fn space_name(alloc: Global, names: &mut IndexSet<Name>, said: &Axiom) -> Result
 /// The declared names that are not in the set.
 fn names_without(
     alloc: Global,
-    spaced: &IndexSet<Name>,
+    spaced: &IndexSet<Name, HashKey>,
     ontology: &Ontology,
 ) -> Result<Vec<Name>, NoMemory>
     ensures { IfOk result (λ names. names.items ≡ filter (λ name. not (has_name spaced.now name))
@@ -133,7 +134,7 @@ fn names_without(
 fn push_name(
     alloc: Global,
     names: &mut Vec<Name>,
-    spaced: &IndexSet<Name>,
+    spaced: &IndexSet<Name, HashKey>,
     said: &Axiom,
 ) -> Result<(), NoMemory>
     ensures { OnOk result (names.new.items ≡ names.old.items
@@ -264,14 +265,14 @@ fn declared_in(said: &Axiom) -> Option<&Name>
 }
 
 /// Whether the name is in the set.
-fn has_name(set: &IndexSet<Name>, name: &Name) -> bool
+fn has_name(set: &IndexSet<Name, HashKey>, name: &Name) -> bool
     ensures { result ≡ has_name set.now name.now }
 {
     set.contains(name)
 }
 
 /// Adds a name to a set.
-fn add_name(set: &mut IndexSet<Name>, name: Name) -> Result<(), NoMemory>
+fn add_name(set: &mut IndexSet<Name, HashKey>, name: Name) -> Result<(), NoMemory>
     ensures { OnOk result ((x : Name) → has_name set.new x ≡ (name_eq x name || has_name set.old x)) }
 {
     set.insert(name)?;

@@ -7,6 +7,7 @@ ghost use Rattle.owl_ontology.specs.Ontology.{axioms_of};
 ghost use Rattle.ofn_writer.specs.Kinds as spec;
 ghost use Rattle.ofn_writer.specs.inner.Declared.{declared_scope, one_if, scope_in, with_property};
 
+use hash_key::HashKey;
 use indexmap::IndexSet;
 use owl_axioms::{Body, Kind, Name, Sig};
 use owl_ontology::Ontology;
@@ -19,7 +20,7 @@ pub struct Declared {
     /// Classes, roles and individuals.
     pub names: Sig,
     /// Annotation properties.
-    pub properties: IndexSet<Iri>,
+    pub properties: IndexSet<Iri, HashKey>,
 }
 
 impl Declared {
@@ -56,8 +57,8 @@ fn one_if(test: bool) -> u8
 pub fn declared_names(alloc: Global, ontology: &Ontology) -> Result<Declared, NoMemory>
     ensures { IfOk result (λ found. (k : Kind) (iri : List ℕ) → declared_scope found k iri ≡ spec.declared (axioms_of ontology.now.entries) k iri) }
 {
-    let mut names = Sig::new(alloc)?;
-    let mut properties = IndexSet::new(alloc);
+    let mut names = Sig::new(alloc, ontology.hash_key())?;
+    let mut properties = IndexSet::with_hasher(alloc, ontology.hash_key());
     for at in 0..ontology.len() {
         push_declared(alloc, &mut names, &mut properties, &ontology.get(at).body)?;
     }
@@ -68,7 +69,7 @@ pub fn declared_names(alloc: Global, ontology: &Ontology) -> Result<Declared, No
 fn push_declared(
     alloc: Global,
     names: &mut Sig,
-    properties: &mut IndexSet<Iri>,
+    properties: &mut IndexSet<Iri, HashKey>,
     body: &Body,
 ) -> Result<(), NoMemory>
     ensures { OnOk result ((k : Kind) (iri : List ℕ) → scope_in names.new properties.new.keys k iri ≡ (scope_in names.old properties.old.keys k iri || spec.declares body.now k iri)) }
@@ -94,7 +95,7 @@ fn declared_name(body: &Body) -> Option<&Name>
 fn push_name(
     alloc: Global,
     names: &mut Sig,
-    properties: &mut IndexSet<Iri>,
+    properties: &mut IndexSet<Iri, HashKey>,
     name: &Name,
 ) -> Result<(), NoMemory>
     ensures { OnOk result ((k : Kind) (iri : List ℕ) → scope_in names.new properties.new.keys k iri ≡ (scope_in names.old properties.old.keys k iri || spec.is_named name.now k iri)) }
@@ -105,7 +106,7 @@ fn push_name(
 }
 
 /// Adds a name to annotation properties, where it is one.
-fn push_property(alloc: Global, properties: &mut IndexSet<Iri>, name: &Name) -> Result<(), NoMemory>
+fn push_property(alloc: Global, properties: &mut IndexSet<Iri, HashKey>, name: &Name) -> Result<(), NoMemory>
     ensures { OnOk result (properties.new.keys ≡ with_property properties.old.keys name.now.kind name.now.iri) }
 {
     if name.kind == Kind::AnnotationProperty {
@@ -115,7 +116,7 @@ fn push_property(alloc: Global, properties: &mut IndexSet<Iri>, name: &Name) -> 
 }
 
 /// Adds an IRI to a set.
-fn put(set: &mut IndexSet<Iri>, iri: Iri) -> Result<bool, NoMemory>
+fn put(set: &mut IndexSet<Iri, HashKey>, iri: Iri) -> Result<bool, NoMemory>
     ensures { OnOk result (set.new.keys ≡ with_text set.old.keys iri) }
 {
     Ok(set.insert(iri)?)

@@ -5,6 +5,7 @@ ghost use Rattle.owl_axioms.specs.Signature.{SigState, add_name, has_text, name_
 ghost use Rattle.owl_axioms.specs.inner.Growth.{IsMore};
 
 use crate::{Kind, Name};
+use hash_key::HashKey;
 use indexmap::IndexSet;
 use rel_io::{Dup, Iri, NoMemory};
 use std::alloc::Global;
@@ -15,9 +16,9 @@ use std::marker::Model;
 #[derive(Drop)]
 pub struct Sig {
     alloc: Global,
-    classes: IndexSet<Iri>,
-    roles: IndexSet<Iri>,
-    individuals: IndexSet<Iri>,
+    classes: IndexSet<Iri, HashKey>,
+    roles: IndexSet<Iri, HashKey>,
+    individuals: IndexSet<Iri, HashKey>,
 }
 
 impl Model for Sig {
@@ -30,14 +31,14 @@ impl Model for Sig {
 
 impl Sig {
     /// A signature without names. It keeps the allocator for the names to come.
-    pub fn new(alloc: Global) -> Result<Sig, NoMemory>
+    pub fn new(alloc: Global, hash_key: HashKey) -> Result<Sig, NoMemory>
         ensures { IfOk result (λ s. s ≡ no_names) }
     {
         Ok(Sig {
             alloc,
-            classes: IndexSet::new(alloc),
-            roles: IndexSet::new(alloc),
-            individuals: IndexSet::new(alloc),
+            classes: IndexSet::with_hasher(alloc, hash_key),
+            roles: IndexSet::with_hasher(alloc, hash_key),
+            individuals: IndexSet::with_hasher(alloc, hash_key),
         })
     }
 
@@ -138,7 +139,7 @@ impl Dup for Sig {
 }
 
 /// Adds an IRI to a set, and says whether it is new.
-fn put(set: &mut IndexSet<Iri>, iri: Iri) -> Result<bool, NoMemory>
+fn put(set: &mut IndexSet<Iri, HashKey>, iri: Iri) -> Result<bool, NoMemory>
     ensures keys { OnOk result (set.new.keys ≡ with_text set.old.keys iri) }
     ensures is_new { IfOk result (λ is_new. is_new ≡ not (has_text set.old.keys iri)) }
     ensures unchanged { OnErr result (set.new.keys ≡ set.old.keys) }
@@ -147,10 +148,10 @@ fn put(set: &mut IndexSet<Iri>, iri: Iri) -> Result<bool, NoMemory>
 }
 
 /// A set of the same IRIs, in the same order.
-fn copy_set(alloc: Global, set: &IndexSet<Iri>) -> Result<IndexSet<Iri>, NoMemory>
+fn copy_set(alloc: Global, set: &IndexSet<Iri, HashKey>) -> Result<IndexSet<Iri, HashKey>, NoMemory>
     ensures { IfOk result (λ twin. twin.keys ≡ set.now.keys) }
 {
-    let mut twin = IndexSet::new(alloc);
+    let mut twin = IndexSet::with_hasher(alloc, *set.hasher());
     for at in 0..set.len() {
         let iri = set.get_index(at).unwrap();
         let copied = iri.copy(alloc)?;

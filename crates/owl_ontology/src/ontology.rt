@@ -9,6 +9,7 @@ ghost use Rattle.owl_ontology.specs.Origins.{lesser};
 ghost use Rattle.owl_axioms.specs.Proper.{AreProper, IsProper};
 
 use crate::Origin;
+use hash_key::HashKey;
 use indexmap::IndexMap;
 use owl_axioms::Axiom;
 use rel_io::{Bytes, Dup, NoMemory};
@@ -20,7 +21,7 @@ use std::marker::Model;
 #[derive(Drop)]
 pub struct Ontology {
     name: Option<Bytes>,
-    axioms: IndexMap<Axiom, Origin>,
+    axioms: IndexMap<Axiom, Origin, HashKey>,
 }
 
 impl Model for Ontology {
@@ -42,12 +43,16 @@ impl Model for Ontology {
 
 impl Ontology {
     /// An ontology of this name, or of none, without axioms.
-    pub fn new(alloc: Global, name: Option<Bytes>) -> Result<Ontology, NoMemory>
+    pub fn new(
+        alloc: Global,
+        hash_key: HashKey,
+        name: Option<Bytes>,
+    ) -> Result<Ontology, NoMemory>
         ensures { IfOk result (λ o. o ≡ record { name = name; entries = [] }) }
     {
         Ok(Ontology {
             name,
-            axioms: IndexMap::new(alloc),
+            axioms: IndexMap::with_hasher(alloc, hash_key),
         })
     }
 
@@ -62,6 +67,11 @@ impl Ontology {
         let count = self.axioms.len();
         put_least(&mut self.axioms, axiom, origin)?;
         Ok(self.axioms.len() != count)
+    }
+
+    /// The key with which its table hashes.
+    pub fn hash_key(&self) -> HashKey {
+        *self.axioms.hasher()
     }
 
     /// The name, if it has one.
@@ -155,12 +165,12 @@ impl Dup for Ontology {
 /// A table of the same axioms and origins, in the same order.
 fn copy_table(
     alloc: Global,
-    axioms: &IndexMap<Axiom, Origin>,
-) -> Result<IndexMap<Axiom, Origin>, NoMemory>
+    axioms: &IndexMap<Axiom, Origin, HashKey>,
+) -> Result<IndexMap<Axiom, Origin, HashKey>, NoMemory>
     ensures same { IfOk result (λ twins. twins.entries ≡ axioms.now.entries) }
     ensures unique { IfOk result (IsUnique same_axiom) }
 {
-    let mut twins = IndexMap::new(alloc);
+    let mut twins = IndexMap::with_hasher(alloc, *axioms.hasher());
     for at in 0..axioms.len() {
         let (axiom, origin) = axioms.get_index(at).unwrap();
         let twin = axiom.copy(alloc)?;
@@ -171,7 +181,7 @@ fn copy_table(
 
 /// Puts an axiom with its origin into a table, and gives the origin that it had there, if any.
 fn put(
-    axioms: &mut IndexMap<Axiom, Origin>,
+    axioms: &mut IndexMap<Axiom, Origin, HashKey>,
     axiom: Axiom,
     origin: Origin,
 ) -> Result<Option<Origin>, NoMemory>
@@ -186,7 +196,7 @@ fn put(
 /// Puts an axiom into a table with the lesser of the origin that it had there, if any, and another one. It is looked up
 /// once.
 fn put_least(
-    axioms: &mut IndexMap<Axiom, Origin>,
+    axioms: &mut IndexMap<Axiom, Origin, HashKey>,
     axiom: Axiom,
     origin: Origin,
 ) -> Result<(), NoMemory>

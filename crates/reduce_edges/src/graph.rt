@@ -7,6 +7,7 @@ ghost use Rattle.reduce_edges.specs.Edges.{Pair, edge_in, edge_list, edges_of};
 ghost use Rattle.reduce_edges.specs.inner.Numbered.{AreApart, AreMore, StandFor};
 
 use edge_detours::redundant_edges;
+use hash_key::HashKey;
 use indexmap::IndexSet;
 use owl_axioms::{Body, ClassExpr};
 use owl_ontology::Ontology;
@@ -17,7 +18,7 @@ use std::alloc::Global;
 #[derive(Drop)]
 pub struct Graph {
     /// The names of the classes, by their numbers.
-    pub names: IndexSet<Iri>,
+    pub names: IndexSet<Iri, HashKey>,
     /// The edges, in the order of their axioms.
     pub edges: Vec<(u32, u32)>,
 }
@@ -27,7 +28,7 @@ pub fn graph_of(alloc: Global, ontology: &Ontology) -> Result<Graph, NoMemory>
     ensures { IfOk result (λ graph. StandFor graph.names.keys graph.edges.items (edges_of (axioms_of ontology.now.entries))) }
 {
     let mut graph = Graph {
-        names: IndexSet::new(alloc),
+        names: IndexSet::with_hasher(alloc, ontology.hash_key()),
         edges: Vec::new(alloc),
     };
     for at in 0..ontology.len() {
@@ -57,7 +58,7 @@ fn push_edge(alloc: Global, graph: &mut Graph, sub: &Iri, sup: &Iri) -> Result<(
 }
 
 /// The number of a name, which it has or gets. More than 2 ^ 32 names are answered by want of memory.
-fn number_of(alloc: Global, names: &mut IndexSet<Iri>, name: &Iri) -> Result<u32, NoMemory>
+fn number_of(alloc: Global, names: &mut IndexSet<Iri, HashKey>, name: &Iri) -> Result<u32, NoMemory>
     ensures more { OnOk result (AreMore names.old.keys names.new.keys) }
     ensures number { IfOk result (λ n. slice_get names.new.keys n ≡ Some name.now) }
 {

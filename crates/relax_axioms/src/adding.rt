@@ -7,6 +7,7 @@ ghost use Rattle.relax_axioms.specs.Relax.{Relaxes, relax_of, step_entries, step
 ghost use Rattle.relax_axioms.specs.Relaxed.{plain};
 
 use crate::unsaid::missing;
+use hash_key::HashKey;
 use indexmap::IndexSet;
 use owl_axioms::{Axiom, Body};
 use owl_ontology::{Ontology, Origin};
@@ -32,7 +33,7 @@ pub fn relax(alloc: Global, ontology: &mut Ontology) -> Result<u64, NoMemory>
 pub fn add_all(
     alloc: Global,
     ontology: &mut Ontology,
-    bodies: &IndexSet<Body>,
+    bodies: &IndexSet<Body, HashKey>,
 ) -> Result<(), NoMemory>
     requires proper { (b : Body) → Contains bodies.now.keys b → IsProper (plain b) }
     requires absent { (b : Body) → Contains bodies.now.keys b → ¬ (IsHeld (plain b) ontology.old.entries) }
@@ -50,7 +51,7 @@ pub fn add_all(
 }
 
 /// Adds them one after the other. Where no memory is left, some may stand behind what was there.
-fn add_each(alloc: Global, ontology: &mut Ontology, bodies: &IndexSet<Body>) -> Result<(), NoMemory>
+fn add_each(alloc: Global, ontology: &mut Ontology, bodies: &IndexSet<Body, HashKey>) -> Result<(), NoMemory>
     requires proper { (b : Body) → Contains bodies.now.keys b → IsProper (plain b) }
     requires absent { (b : Body) → Contains bodies.now.keys b → ¬ (IsHeld (plain b) ontology.old.entries) }
     ensures added { OnOk result (ontology.new ≡ record ontology.old { entries = ontology.old.entries ++ step_entries (map plain bodies.now.keys) }) }

@@ -5,6 +5,7 @@ ghost use Rattle.owl_ontology.specs.Ontology.{axioms_of};
 ghost use Rattle.relax_axioms.specs.Implied as spec;
 ghost use Rattle.relax_axioms.specs.Implied.{all_implied, defined_as, definition_in, implied_by, same_body, wanted_by};
 
+use hash_key::HashKey;
 use indexmap::IndexSet;
 use owl_axioms::{Body, ClassExpr};
 use owl_ontology::Ontology;
@@ -12,10 +13,10 @@ use rel_io::{Dup, Iri, NoMemory};
 use std::alloc::Global;
 
 /// The inclusions that definitions imply, in the order of the axioms.
-pub fn wanted(alloc: Global, ontology: &Ontology) -> Result<IndexSet<Body>, NoMemory>
+pub fn wanted(alloc: Global, ontology: &Ontology) -> Result<IndexSet<Body, HashKey>, NoMemory>
     ensures { IfOk result (λ bodies. bodies.keys ≡ insert_all same_body [] (all_implied (axioms_of ontology.now.entries))) }
 {
-    let mut bodies = IndexSet::new(alloc);
+    let mut bodies = IndexSet::with_hasher(alloc, ontology.hash_key());
     for at in 0..ontology.len() {
         push_wanted(alloc, &mut bodies, &ontology.get(at).body)?;
     }
@@ -23,7 +24,7 @@ pub fn wanted(alloc: Global, ontology: &Ontology) -> Result<IndexSet<Body>, NoMe
 }
 
 /// Adds what an axiom implies by what it says.
-fn push_wanted(alloc: Global, bodies: &mut IndexSet<Body>, body: &Body) -> Result<(), NoMemory>
+fn push_wanted(alloc: Global, bodies: &mut IndexSet<Body, HashKey>, body: &Body) -> Result<(), NoMemory>
     ensures { OnOk result (bodies.new.keys ≡ insert_all same_body bodies.old.keys (wanted_by body.now)) }
 {
     match definition_in(body) {
@@ -58,7 +59,7 @@ fn defined_as<'a>(one: &'a ClassExpr, other: &'a ClassExpr) -> Option<(&'a Iri, 
 /// Adds what the operands of a class imply.
 fn push_operands(
     alloc: Global,
-    bodies: &mut IndexSet<Body>,
+    bodies: &mut IndexSet<Body, HashKey>,
     class: &Iri,
     operands: &[ClassExpr],
 ) -> Result<(), NoMemory>
@@ -73,7 +74,7 @@ fn push_operands(
 /// Adds what one operand of a class implies.
 fn push_operand(
     alloc: Global,
-    bodies: &mut IndexSet<Body>,
+    bodies: &mut IndexSet<Body, HashKey>,
     class: &Iri,
     operand: &ClassExpr,
 ) -> Result<(), NoMemory>

@@ -7,6 +7,7 @@ ghost use Rattle.relax_axioms.specs.Implied.{is_said, missing_of, same_body};
 ghost use Rattle.relax_axioms.specs.Relaxed.{plain};
 
 use crate::implied::wanted;
+use hash_key::HashKey;
 use indexmap::IndexSet;
 use owl_axioms::{Axiom, Body};
 use owl_ontology::Ontology;
@@ -14,7 +15,7 @@ use rel_io::{Dup, NoMemory};
 use std::alloc::Global;
 
 /// The inclusions that definitions imply and that no axiom says.
-pub fn missing(alloc: Global, ontology: &Ontology) -> Result<IndexSet<Body>, NoMemory>
+pub fn missing(alloc: Global, ontology: &Ontology) -> Result<IndexSet<Body, HashKey>, NoMemory>
     ensures exact { IfOk result (λ bodies. bodies.keys ≡ missing_of (axioms_of ontology.now.entries)) }
     ensures proper { IfOk result (λ bodies. (b : Body) → Contains bodies.keys b → IsProper (plain b)) }
     ensures absent { IfOk result (λ bodies. (b : Body) → Contains bodies.keys b → ¬ (IsHeld (plain b) ontology.now.entries)) }
@@ -27,7 +28,7 @@ pub fn missing(alloc: Global, ontology: &Ontology) -> Result<IndexSet<Body>, NoM
 }
 
 /// Drops those that are said, and leaves the others in their order.
-fn drop_said(bodies: &mut IndexSet<Body>, said: &IndexSet<Body>)
+fn drop_said(bodies: &mut IndexSet<Body, HashKey>, said: &IndexSet<Body, HashKey>)
     ensures { bodies.new.keys ≡ filter (λ b. not (contains same_body said.now b)) bodies.old.keys }
 {
     bodies.retain(
@@ -41,11 +42,11 @@ fn drop_said(bodies: &mut IndexSet<Body>, said: &IndexSet<Body>)
 fn said_of(
     alloc: Global,
     ontology: &Ontology,
-    bodies: &IndexSet<Body>,
-) -> Result<IndexSet<Body>, NoMemory>
+    bodies: &IndexSet<Body, HashKey>,
+) -> Result<IndexSet<Body, HashKey>, NoMemory>
     ensures { IfOk result (λ said. (b : Body) → contains same_body said b ≡ (contains same_body bodies.now b && is_said (axioms_of ontology.now.entries) b)) }
 {
-    let mut said = IndexSet::new(alloc);
+    let mut said = IndexSet::with_hasher(alloc, ontology.hash_key());
     for at in 0..ontology.len() {
         push_said(alloc, &mut said, bodies, ontology.get(at))?;
     }
@@ -55,8 +56,8 @@ fn said_of(
 /// Adds what an axiom says, where it is one of these.
 fn push_said(
     alloc: Global,
-    said: &mut IndexSet<Body>,
-    bodies: &IndexSet<Body>,
+    said: &mut IndexSet<Body, HashKey>,
+    bodies: &IndexSet<Body, HashKey>,
     one: &Axiom,
 ) -> Result<(), NoMemory>
     ensures { OnOk result ((b : Body) → contains same_body said.new b ≡ (contains same_body said.old b || (contains same_body bodies.now b && same_body one.now.body b))) }
@@ -68,7 +69,7 @@ fn push_said(
 }
 
 /// Whether what an axiom says is one of these, with whatever annotations it says it.
-fn has_body(bodies: &IndexSet<Body>, one: &Axiom) -> bool
+fn has_body(bodies: &IndexSet<Body, HashKey>, one: &Axiom) -> bool
     ensures { result ≡ contains same_body bodies.now one.now.body }
 {
     bodies.contains(&one.body)

@@ -10,18 +10,19 @@ use crate::output::put_output;
 use crate::steps::do_steps;
 use crate::work::Work;
 use chain_words::Chain;
+use hash_key::HashKey;
 use rel_io::Folder;
 use release_report::Fault;
 use std::alloc::Global;
 
 /// Runs a chain.
-pub fn run_chain<F: Folder>(alloc: Global, folder: &mut F, chain: &Chain) -> Result<Work, Fault>
+pub fn run_chain<F: Folder>(alloc: Global, hash_key: HashKey, folder: &mut F, chain: &Chain) -> Result<Work, Fault>
     requires apart { NoOutputIsInput chain.now }
     ensures caused { Caused result (F.state folder.old) (F.state folder.new) }
     ensures counts { NoCountFell (F.state folder.old) (F.state folder.new) }
     ensures ends { (files : Files) → (F.state folder.old).holds ≡ Some files → ChainEnds files chain.now result (F.state folder.old).holds (F.state folder.new).holds }
 {
-    let work = load_inputs(alloc, folder, chain)?;
+    let work = load_inputs(alloc, hash_key, folder, chain)?;
     let work = put_output(alloc, folder, &chain.first, work)?;
     do_steps(alloc, folder, chain.steps.as_slice(), work)
 }

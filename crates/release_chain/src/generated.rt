@@ -25,6 +25,7 @@ use crate::modules::extract_named;
 use crate::output::obo_for;
 use crate::work::{Work, noted};
 use chain_words::Method;
+use hash_key::HashKey;
 use import_closure::SourceFile;
 use import_merge::merge_file;
 use obo_frames::{DocFault, read_document};
@@ -35,11 +36,11 @@ use release_report::{Entry, Fault};
 use std::alloc::Global;
 
 /// Does the steps of a release on the generated document of a size.
-pub fn run_generated(alloc: Global, size: u32) -> Result<Work, Fault>
+pub fn run_generated(alloc: Global, hash_key: HashKey, size: u32) -> Result<Work, Fault>
     requires { (10 ≤ size) × (size ≤ 1000000) }
     ensures { GeneratedEnds size result }
 {
-    let work = begun(alloc, size)?;
+    let work = begun(alloc, hash_key, size)?;
     released(alloc, size, work)
 }
 
@@ -111,7 +112,7 @@ fn with_printed(bytes: u64, work: Work) -> Result<Work, Fault>
 }
 
 /// The axioms of the generated document, and the first lines of the report.
-fn begun(alloc: Global, size: u32) -> Result<Work, Fault>
+fn begun(alloc: Global, hash_key: HashKey, size: u32) -> Result<Work, Fault>
     requires { (10 ≤ size) × (size ≤ 1000000) }
     ensures ends { BegunEnds size result }
     ensures forms { IfOk result HasForms }
@@ -120,7 +121,7 @@ fn begun(alloc: Global, size: u32) -> Result<Work, Fault>
     let source = source_in(alloc, text.as_slice())?;
     let bytes = text.as_slice().len() as u64;
     drop(text);
-    merged(alloc, size, bytes, source)
+    merged(alloc, hash_key, size, bytes, source)
 }
 
 /// The generated document as a file.
@@ -157,12 +158,18 @@ fn document_fault(fault: DocFault, file: Bytes) -> Fault
 }
 
 /// The axioms of the document, and the first lines of the report.
-fn merged(alloc: Global, size: u32, bytes: u64, source: SourceFile) -> Result<Work, Fault>
+fn merged(
+    alloc: Global,
+    hash_key: HashKey,
+    size: u32,
+    bytes: u64,
+    source: SourceFile,
+) -> Result<Work, Fault>
     requires bytes { bytes ≡ length (generated size) }
     ensures ends { MergedEnds size source result }
     ensures forms { IfOk result HasForms }
 {
-    let (ontology, note) = merge_file(alloc, &source)?;
+    let (ontology, note) = merge_file(alloc, hash_key, &source)?;
     let frames = note.frames;
     drop(note);
     let SourceFile { name, document } = source;

@@ -15,6 +15,7 @@ ghost use Rattle.obo_mapping.specs.Back.{IsSpellable};
 use crate::counting::counts_of;
 use crate::work::{Work, noted};
 use chain_words::Chain;
+use hash_key::HashKey;
 use import_closure::LoadFault;
 use import_merge::{FileNote, Merged, load};
 use obo_to_owl::Dropped;
@@ -23,20 +24,20 @@ use release_report::{Entry, Fault};
 use std::alloc::Global;
 
 /// Reads and merges the inputs.
-pub fn load_inputs<F: Folder>(alloc: Global, folder: &mut F, chain: &Chain) -> Result<Work, Fault>
+pub fn load_inputs<F: Folder>(alloc: Global, hash_key: HashKey, folder: &mut F, chain: &Chain) -> Result<Work, Fault>
     ensures caused { Caused result (F.state folder.old) (F.state folder.new) }
     ensures counts { NoCountFell (F.state folder.old) (F.state folder.new) }
     ensures forms { IfOk result HasForms }
     ensures ends { (files : Files) → (F.state folder.old).holds ≡ Some files → LoadEnds files chain.now result (F.state folder.old).holds (F.state folder.new).holds }
 {
-    match load_files(alloc, folder, chain) {
+    match load_files(alloc, hash_key, folder, chain) {
         Ok(merged) => merged_work(alloc, merged),
         Err(fault) => Err(load_fault(fault)),
     }
 }
 
 /// Reads and merges the files that a chain names, and what they import.
-fn load_files<F: Folder>(alloc: Global, folder: &mut F, chain: &Chain) -> Result<Merged, LoadFault>
+fn load_files<F: Folder>(alloc: Global, hash_key: HashKey, folder: &mut F, chain: &Chain) -> Result<Merged, LoadFault>
     ensures loads { LoadsAs IsLoaded (λ files. sources_of files chain.now) (F.state folder.old) result (F.state folder.new) }
     ensures holds { (F.state folder.new).holds ≡ (F.state folder.old).holds }
     ensures counts { NoCountFell (F.state folder.old) (F.state folder.new) }
@@ -45,7 +46,7 @@ fn load_files<F: Folder>(alloc: Global, folder: &mut F, chain: &Chain) -> Result
     let limits = Limits::release();
     let inputs = chain.inputs.as_slice();
     let catalog = chain.catalog.as_ref();
-    load(alloc, folder, inputs, catalog, &limits)
+    load(alloc, hash_key, folder, inputs, catalog, &limits)
 }
 
 /// The state behind the inputs.

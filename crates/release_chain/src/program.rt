@@ -11,6 +11,7 @@ use crate::chain::run_chain;
 use crate::generated::run_generated;
 use crate::work::Work;
 use chain_words::{Command, outputs_stand_apart, read_words, sizes_are_bounded};
+use hash_key::HashKey;
 use rel_io::{Folder, Sink};
 use release_report::{Fault, report_text, write_fault};
 use std::alloc::Global;
@@ -32,34 +33,35 @@ fn ask(alloc: Global, words: &Vec<String>) -> Result<Command, Fault>
 }
 
 /// Runs what the words ask for.
-fn run_words<F: Folder>(alloc: Global, words: &Vec<String>, folder: &mut F) -> Result<Work, Fault>
+fn run_words<F: Folder>(alloc: Global, hash_key: HashKey, words: &Vec<String>, folder: &mut F) -> Result<Work, Fault>
     ensures { WordsEnd (asked (map string_bytes words.now.items)) (F.state folder.old) result (F.state folder.new) }
 {
     let command = ask(alloc, words)?;
-    run_command(alloc, &command, folder)
+    run_command(alloc, hash_key, &command, folder)
 }
 
 /// Runs a command.
-fn run_command<F: Folder>(alloc: Global, command: &Command, folder: &mut F) -> Result<Work, Fault>
+fn run_command<F: Folder>(alloc: Global, hash_key: HashKey, command: &Command, folder: &mut F) -> Result<Work, Fault>
     requires { IsSound command.now }
     ensures { CommandEnds command.now (F.state folder.old) result (F.state folder.new) }
 {
     match command {
-        Command::Generate(size) => run_generated(alloc, *size),
-        Command::Run(chain) => run_chain(alloc, folder, chain),
+        Command::Generate(size) => run_generated(alloc, hash_key, *size),
+        Command::Run(chain) => run_chain(alloc, hash_key, folder, chain),
     }
 }
 
 /// Runs what the words ask for, and reports it.
 fn finish<F: Folder, O: Sink>(
     alloc: Global,
+    hash_key: HashKey,
     words: &Vec<String>,
     folder: &mut F,
     out: &mut O,
 ) -> Result<(), Fault>
     ensures { Finishes (asked (map string_bytes words.now.items)) (F.state folder.old) (O.state out.old) result (F.state folder.new) (O.state out.new) }
 {
-    let work = run_words(alloc, words, folder)?;
+    let work = run_words(alloc, hash_key, words, folder)?;
     let entries = work.entries.into_vec();
     let report = report_text(alloc, &entries)?;
     match out.write_all(report.as_slice()) {
@@ -79,6 +81,7 @@ fn finish<F: Folder, O: Sink>(
 /// is said of files is said over a folder that tells what it holds.
 pub fn release<F: Folder, O: Sink, E: Sink>(
     alloc: Global,
+    hash_key: HashKey,
     words: &Vec<String>,
     folder: &mut F,
     out: &mut O,
@@ -98,7 +101,7 @@ pub fn release<F: Folder, O: Sink, E: Sink>(
     ensures out { OutEnds (map string_bytes words.now.items) (outside (F.state folder.old) (O.state out.old) (E.state err.old)) result.fault (outside (F.state folder.new) (O.state out.new) (E.state err.new)) }
     ensures err { ErrEnds (outside (F.state folder.old) (O.state out.old) (E.state err.old)) result.fault (outside (F.state folder.new) (O.state out.new) (E.state err.new)) }
 {
-    match finish(alloc, words, folder, out) {
+    match finish(alloc, hash_key, words, folder, out) {
         Ok(()) => Ended::with(None),
         Err(fault) => {
             let _told = write_fault(&fault, err);

@@ -7,6 +7,7 @@ ghost use Rattle.std.specs.String.{string_bytes};
 ghost use Rattle.release_chain.specs.Release.{outside};
 ghost use Rattle.robot_cli.specs.Process.{EndsWith};
 
+use hash_key::HashKey;
 use rel_io::{Folder, Sink};
 use rel_os::{DiskFolder, StdSink};
 use release_chain::release;
@@ -14,6 +15,7 @@ use std::alloc::Global;
 use std::env::{self, Env};
 use std::io::{self, ErrorKind};
 use std::process::ExitCode;
+use std::random::RandomSource;
 
 /// The status of words that are refused.
 const BAD_WORDS: u8 = 2;
@@ -27,7 +29,14 @@ fn main(rt: HostRuntime) -> ExitCode {
             let mut folder = DiskFolder::new(&rt);
             let mut out = StdSink::output(&rt);
             let mut err = StdSink::error(&rt);
-            ExitCode::from(run(rt.alloc(), &words, &mut folder, &mut out, &mut err))
+            ExitCode::from(run(
+                rt.alloc(),
+                hash_key(&rt),
+                &words,
+                &mut folder,
+                &mut out,
+                &mut err,
+            ))
         }
         Err(error) => ExitCode::from(status_without_words(error)),
     }
@@ -36,6 +45,7 @@ fn main(rt: HostRuntime) -> ExitCode {
 /// Does what the words ask for, and gives the status with which the process ends.
 fn run<F: Folder, O: Sink, E: Sink>(
     alloc: Global,
+    hash_key: HashKey,
     words: &Vec<String>,
     folder: &mut F,
     out: &mut O,
@@ -43,10 +53,20 @@ fn run<F: Folder, O: Sink, E: Sink>(
 ) -> u8
     ensures { EndsWith (map string_bytes words.now.items) (outside (F.state folder.old) (O.state out.old) (E.state err.old)) result (outside (F.state folder.new) (O.state out.new) (E.state err.new)) }
 {
-    let ended = release(alloc, words, folder, out, err);
+    let ended = release(alloc, hash_key, words, folder, out, err);
     let status = ended.status;
     drop(ended);
     status
+}
+
+/// The key of this run, from a number that the system draws. Where the system gives none, the key is a fixed one: the
+/// answers are the same, and only files that were made against that key take longer.
+fn hash_key<R: RandomSource>(rt: &R) -> HashKey {
+    let mut drawn = [0; 8];
+    match rt.fill_bytes(&mut drawn) {
+        Ok(()) => HashKey::new(u64::from_le_bytes(drawn)),
+        Err(_) => HashKey::new(0),
+    }
 }
 
 /// The words behind the program's name.

@@ -7,6 +7,7 @@ ghost use Rattle.seed_list.specs.Seed.{IsSeedOf, ReadsSeed, names_of};
 ghost use Rattle.seed_list.specs.declared.seed.SeedFault.TheVariants as fault;
 
 use crate::terms::read_iris;
+use hash_key::HashKey;
 use owl_axioms::{Kind, Name, Sig};
 use rel_io::{Bytes, Dup, Iri, Items, NoMemory};
 use std::alloc::{AllocFailed, Global};
@@ -57,6 +58,7 @@ impl<T: Drop> From<AllocFailed<T>> for SeedFault {
 /// line that is refused; or else that there is no term. It takes the time of a sort of the terms.
 pub fn read_seed(
     alloc: Global,
+    hash_key: HashKey,
     bytes: &Bytes,
     ontology: &Bytes,
     lines: u32,
@@ -68,16 +70,16 @@ pub fn read_seed(
     if iris.as_slice().is_empty() {
         return Err(SeedFault::EmptySeed);
     }
-    let seed = seed_of(alloc, iris.into_vec())?;
+    let seed = seed_of(alloc, hash_key, iris.into_vec())?;
     Ok(seed)
 }
 
 /// The seed of these IRIs.
-fn seed_of(alloc: Global, iris: Vec<Iri>) -> Result<Seed, NoMemory>
+fn seed_of(alloc: Global, hash_key: HashKey, iris: Vec<Iri>) -> Result<Seed, NoMemory>
     ensures { IfOk result (IsSeedOf iris.items) }
 {
     let iris = sorted(iris);
-    let sig = sig_of(alloc, iris.as_slice())?;
+    let sig = sig_of(alloc, hash_key, iris.as_slice())?;
     Ok(Seed {
         sig,
         iris: Items::from_vec(iris),
@@ -95,10 +97,10 @@ fn sorted(iris: Vec<Iri>) -> Vec<Iri>
 }
 
 /// The class, the role and the individual of each IRI.
-fn sig_of(alloc: Global, iris: &[Iri]) -> Result<Sig, NoMemory>
+fn sig_of(alloc: Global, hash_key: HashKey, iris: &[Iri]) -> Result<Sig, NoMemory>
     ensures { IfOk result (λ sig. sig ≡ added no_names (flat_map names_of iris.now)) }
 {
-    let mut sig = Sig::new(alloc)?;
+    let mut sig = Sig::new(alloc, hash_key)?;
     for iri in iris {
         add_names(alloc, &mut sig, iri)?;
     }

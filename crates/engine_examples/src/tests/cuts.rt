@@ -2,6 +2,7 @@
 use crate::tests::pools::interned_at;
 use crate::tests::steps::axiom;
 use expr_pool::{Cell, Pool};
+use hash_key::HashKey;
 use owl_ontology::{Ontology, Origin};
 use rel_io::{Iri, NoMemory};
 use std::alloc::Global;
@@ -26,7 +27,7 @@ fn starts_with_a(alloc: Global, pool: &Pool) -> Result<bool, NoMemory> {
 #[test]
 fn pools_are_cut(rt: HostRuntime) -> Result<(), Fail> {
     let alloc = rt.alloc();
-    let mut pool = Pool::new(alloc)?;
+    let mut pool = Pool::new(alloc, HashKey::new(7))?;
     let class = interned_at(alloc, &mut pool, 0)?;
     assert_eq!(rt; class, (0, 1));
     let whole = interned_at(alloc, &mut pool, 3)?;
@@ -82,7 +83,7 @@ fn ontologies_are_cut(rt: HostRuntime) -> Result<(), Fail> {
     let alloc = rt.alloc();
     let first = (b'a', b'<', b"b".as_slice(), false);
     let second = (b'a', b'<', b"C".as_slice(), false);
-    let mut ontology = Ontology::new(alloc, None)?;
+    let mut ontology = Ontology::new(alloc, HashKey::new(7), None)?;
     let one = put(alloc, &mut ontology, &first, 3)?;
     assert!(rt; one);
     let two = put(alloc, &mut ontology, &second, 4)?;

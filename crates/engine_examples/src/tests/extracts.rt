@@ -7,6 +7,7 @@ ghost use Rattle.owl_axioms.specs.Proper.{IsProper};
 use super::steps::{axiom, letter, sides};
 use chain_words::Method;
 use extract_step::{Extracted, extract};
+use hash_key::HashKey;
 use owl_axioms::{Axiom, Body, Kind, Name, NoteValue, Sig, axiom_of, owl_thing};
 use owl_ontology::{Ontology, Origin};
 use rel_io::{Bytes, Dup, Iri, Items, NoMemory};
@@ -98,7 +99,7 @@ fn put(
 
 /// The ontology of these axioms.
 fn ontology(alloc: Global, rows: &[(u8, u8, &[u8], bool)]) -> Result<Ontology, NoMemory> {
-    let mut ontology = Ontology::new(alloc, None)?;
+    let mut ontology = Ontology::new(alloc, HashKey::new(7), None)?;
     for row in rows {
         put(alloc, &mut ontology, row)?;
     }
@@ -116,7 +117,7 @@ fn put_names(alloc: Global, sig: &mut Sig, sign: u8) -> Result<(), NoMemory> {
 
 /// The seed of these signs.
 fn seed(alloc: Global, signs: &[u8]) -> Result<Seed, NoMemory> {
-    let mut sig = Sig::new(alloc)?;
+    let mut sig = Sig::new(alloc, HashKey::new(7))?;
     let mut iris = Vec::new(alloc);
     for sign in signs {
         put_names(alloc, &mut sig, *sign)?;

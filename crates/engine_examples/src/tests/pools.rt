@@ -1,5 +1,6 @@
 //! Trees, and the nodes that a pool gives them.
 use expr_pool::Pool;
+use hash_key::HashKey;
 use owl_axioms::ClassExpr;
 use rel_io::{Boxed, Iri, Items, NoMemory};
 use std::alloc::Global;
@@ -109,7 +110,7 @@ fn are_interned(
 #[test]
 fn trees_are_interned(rt: HostRuntime) -> Result<(), Fail> {
     let alloc = rt.alloc();
-    let mut pool = Pool::new(alloc)?;
+    let mut pool = Pool::new(alloc, HashKey::new(7))?;
     let wanted = [
         (3, 3, 4),
         (3, 3, 4),
@@ -137,7 +138,7 @@ fn trees_are_interned(rt: HostRuntime) -> Result<(), Fail> {
 #[test]
 fn each_constructor_is_interned(rt: HostRuntime) -> Result<(), Fail> {
     let alloc = rt.alloc();
-    let mut pool = Pool::new(alloc)?;
+    let mut pool = Pool::new(alloc, HashKey::new(7))?;
     let wanted = [
         (12, 0, 1),
         (6, 3, 4),
@@ -180,7 +181,7 @@ fn classes(alloc: Global, count: u32) -> Result<Vec<ClassExpr>, NoMemory> {
 #[test]
 fn large_trees_are_interned(rt: HostRuntime) -> Result<(), Fail> {
     let alloc = rt.alloc();
-    let mut pool = Pool::new(alloc)?;
+    let mut pool = Pool::new(alloc, HashKey::new(7))?;
     let deep = interned(&mut pool, deep(alloc, 64)?)?;
     assert_eq!(rt; deep, (64, 65));
     let operands = classes(alloc, 10000)?;

@@ -1,4 +1,5 @@
 //! Names, and what a signature has of them.
+use hash_key::HashKey;
 use owl_axioms::{Axiom, Body, ClassExpr, Kind, Name, Sig, sig_of};
 use rel_io::{Boxed, Dup, Iri, Items, NoMemory};
 use std::alloc::Global;
@@ -19,7 +20,7 @@ fn added(alloc: Global, sig: &mut Sig, kind: Kind, text: u8) -> Result<bool, NoM
 #[test]
 fn names_are_added_once(rt: HostRuntime) -> Result<(), Fail> {
     let alloc = rt.alloc();
-    let mut sig = Sig::new(alloc)?;
+    let mut sig = Sig::new(alloc, HashKey::new(7))?;
     let mut as_wanted = true;
     for (kind, is_new) in [
         (Kind::Class, true),
@@ -56,7 +57,7 @@ fn restricted(alloc: Global, text: u8) -> Result<Axiom, NoMemory> {
 #[test]
 fn names_of_axioms_are_added(rt: HostRuntime) -> Result<(), Fail> {
     let alloc = rt.alloc();
-    let mut sig = Sig::new(alloc)?;
+    let mut sig = Sig::new(alloc, HashKey::new(7))?;
     sig_of(&restricted(alloc, b'a')?, &mut sig)?;
     assert_eq!(rt; sig.len(), 2);
     sig_of(&restricted(alloc, b'b')?, &mut sig)?;

@@ -5,6 +5,7 @@ ghost use Rattle.rel_io.specs.Texts.{is_clean_iri};
 ghost use Rattle.owl_axioms.specs.Made.{AreProperExprs, IsProperExpr, is_proper_unordered};
 ghost use Rattle.owl_axioms.specs.Proper.{IsProper, is_proper_side};
 
+use hash_key::HashKey;
 use owl_axioms::{Axiom, Body, ClassExpr, NoteValue, Side, and_of, axiom_of, class_named, or_of};
 use owl_ontology::{Ontology, Origin};
 use reduce_edges::reduce;
@@ -144,7 +145,7 @@ fn put(
 
 /// The ontology of these axioms.
 fn ontology(alloc: Global, rows: &[(u8, u8, &[u8], bool)]) -> Result<Ontology, NoMemory> {
-    let mut ontology = Ontology::new(alloc, None)?;
+    let mut ontology = Ontology::new(alloc, HashKey::new(7), None)?;
     for row in rows {
         put(alloc, &mut ontology, row)?;
     }

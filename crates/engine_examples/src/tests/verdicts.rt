@@ -7,6 +7,7 @@ ghost use Rattle.owl_axioms.specs.Names.{has_meaning};
 ghost use Rattle.owl_axioms.specs.Signature.{scope_of};
 
 use expr_pool::Pool;
+use hash_key::HashKey;
 use locality_bot::Bot;
 use locality_core::{Finding, Verdicts};
 use owl_axioms::{ClassExpr, Kind, Name, Sig};
@@ -81,7 +82,7 @@ fn enter_class(
 /// Whether two nodes are empty for bottom where the signature has no name, and when the property entered it, and nothing is
 /// known of them when the class entered it too.
 fn are_renewed(alloc: Global, pool: &Pool) -> Result<bool, NoMemory> {
-    let mut sig = Sig::new(alloc)?;
+    let mut sig = Sig::new(alloc, HashKey::new(7))?;
     let mut verdicts = Verdicts::<Bot>::new(alloc, pool, &sig)?;
     let first = are_known(pool, &sig, &verdicts, Finding::Empty);
     enter_property(alloc, pool, &mut sig, &mut verdicts)?;
@@ -95,7 +96,7 @@ fn are_renewed(alloc: Global, pool: &Pool) -> Result<bool, NoMemory> {
 fn verdicts_are_kept(rt: HostRuntime) -> Result<(), Fail> {
     let alloc = rt.alloc();
     let tree = with_a(alloc)?;
-    let mut pool = Pool::new(alloc)?;
+    let mut pool = Pool::new(alloc, HashKey::new(7))?;
     pool.intern(&tree)?;
     drop(tree);
     let renewed = are_renewed(alloc, &pool)?;

@@ -4,6 +4,7 @@ ghost use Rattle.std.specs.Prelude.{◌+◌, ◌<◌, ◌^◌};
 
 use super::ground::{folder_with, names_in, next_word, shown_fault};
 use document_examples::{is_copied, push, wrong_in};
+use hash_key::HashKey;
 use import_merge::{FileNote, Merged, load};
 use owl_axioms::axiom_text;
 use owl_ontology::Ontology;
@@ -77,7 +78,7 @@ fn loaded(
     } else {
         Some(&catalog_name)
     };
-    match load(alloc, folder, names.as_slice(), catalog, limits) {
+    match load(alloc, HashKey::new(7), folder, names.as_slice(), catalog, limits) {
         Ok(merged) => shown(alloc, &merged.copy(alloc)?),
         Err(fault) => shown_fault(alloc, &fault),
     }

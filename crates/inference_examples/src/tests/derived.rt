@@ -7,6 +7,7 @@ ghost use Rattle.rel_io.specs.Texts.{is_clean_iri};
 use el_part::{ElPart, el_part};
 use el_saturate::{SatFault, Table, saturate};
 use expr_pool::Pool;
+use hash_key::HashKey;
 use owl_axioms::{Body, ClassExpr, Kind, Name, and_of, axiom_of};
 use owl_ontology::{Ontology, Origin};
 use rel_io::{Boxed, Iri, NoMemory};
@@ -196,7 +197,7 @@ fn add(alloc: Global, ontology: &mut Ontology, kind: u8, one: u8, two: u8) -> Re
 
 /// The ontology of some axioms.
 pub fn ontology_of(alloc: Global, axioms: &[(u8, u8, u8)]) -> Result<Ontology, NoMemory> {
-    let mut ontology = Ontology::new(alloc, None)?;
+    let mut ontology = Ontology::new(alloc, HashKey::new(7), None)?;
     for (kind, one, two) in axioms {
         add(alloc, &mut ontology, *kind, *one, *two)?;
     }
@@ -263,7 +264,7 @@ fn derives(
     unused: u64,
     pairs: &[(u8, u8, bool)],
 ) -> Result<bool, NoMemory> {
-    let mut pool = Pool::new(alloc)?;
+    let mut pool = Pool::new(alloc, HashKey::new(7))?;
     let ontology = ontology_of(alloc, axioms)?;
     let part = el_part(alloc, &ontology, &mut pool)?;
     if part.unused() != unused || !is_limited(alloc, &part, &pool, facts)? {

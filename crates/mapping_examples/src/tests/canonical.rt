@@ -1,5 +1,6 @@
 //! Documents with their canonical texts, worked out by hand: whole ones, and each rule of the normal form before and after.
 use document_examples::{bytes_of, wrong_in};
+use hash_key::HashKey;
 use obo_canonical::canonical;
 use obo_frames::{Document, read_document};
 use rel_io::NoMemory;
@@ -146,6 +147,6 @@ fn canonical_of(alloc: Global, file: &[u8]) -> Result<Vec<u8>, NoMemory> {
 
 /// The canonical text of a document.
 fn text_of_document(alloc: Global, document: &Document) -> Result<Vec<u8>, NoMemory> {
-    let text = canonical(alloc, document)?;
+    let text = canonical(alloc, HashKey::new(7), document)?;
     Ok(text.into_vec())
 }

@@ -1,5 +1,6 @@
 //! Documents, their axioms with the lines that these come from, and the clauses that have none, worked out by hand.
 use document_examples::{bytes_of, push, wrong_in};
+use hash_key::HashKey;
 use obo_frames::read_document;
 use obo_to_owl::{Translated, translate};
 use owl_axioms::axiom_text;
@@ -60,7 +61,7 @@ fn translation(alloc: Global, input: &str) -> Result<Vec<u8>, NoMemory> {
     }
     match read_document(alloc, file.as_slice(), 1000) {
         Ok(document) => {
-            let translated = translate(alloc, &document, 5)?;
+            let translated = translate(alloc, HashKey::new(7), &document, 5)?;
             answer_of(alloc, &translated)
         }
         Err(fault) => {

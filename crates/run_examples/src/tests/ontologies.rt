@@ -4,6 +4,7 @@ ghost use Rattle.rel_io.specs.Texts.{is_clean_iri};
 ghost use Rattle.owl_axioms.specs.Proper.{IsProper};
 
 use document_examples::is_copied;
+use hash_key::HashKey;
 use owl_axioms::{Axiom, Body, ClassExpr, Kind, Name, NoteValue, Side};
 use owl_ontology::{Ontology, Origin};
 use rel_io::{Boxed, Bytes, Dup, Iri, Items, NoMemory};
@@ -63,7 +64,7 @@ fn has_at(ontology: &Ontology, at: usize, axiom: &Axiom, origin: Origin) -> bool
 #[test]
 fn an_axiom_is_kept_once_with_its_least_origin(rt: HostRuntime) -> Result<(), Fail> {
     let alloc = rt.alloc();
-    let mut ontology = Ontology::new(alloc, None)?;
+    let mut ontology = Ontology::new(alloc, HashKey::new(7), None)?;
     for (place, file, line, is_new) in [
         (0u8, 0u32, 2u32, true),
         (1, 0, 5, true),

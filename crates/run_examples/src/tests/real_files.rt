@@ -1,5 +1,6 @@
 //! Whole runs over real files, in the folder in which the test runs; and the real folder and streams by themselves.
 use document_examples::{push, wrong_in};
+use hash_key::HashKey;
 use rel_io::{Folder, Got, NoMemory, Opened, Sink};
 use rel_os::{DiskFolder, StdSink};
 use release_chain::{Ended, release};
@@ -59,7 +60,7 @@ fn run(rt: &HostRuntime, alloc: Global, input: &str, output: &str) -> Result<End
     let mut folder = DiskFolder::new(rt);
     let mut out = StdSink::output(rt);
     let mut err = StdSink::error(rt);
-    Ok(release(alloc, &words, &mut folder, &mut out, &mut err))
+    Ok(release(alloc, HashKey::new(7), &words, &mut folder, &mut out, &mut err))
 }
 
 #[test]

@@ -5,6 +5,7 @@ ghost use Rattle.std.specs.Prelude.{◌≤◌, ◌≡◌, IfOk};
 
 use super::words::words_of;
 use document_examples::push;
+use hash_key::HashKey;
 use rel_io::{Bytes, MemFolder, MemSink, NoMemory};
 use release_chain::{Ended, release};
 use std::alloc::Global;
@@ -47,7 +48,7 @@ fn a_second_read_fails(rt: HostRuntime) -> Result<(), Fail> {
     let mut out = MemSink::new(alloc, 500, Vec::new(alloc))?;
     let mut err = MemSink::new(alloc, 500, Vec::new(alloc))?;
     let words = words_of(alloc, "merge --input edit.obo convert --output r.obo")?;
-    let ended = release(alloc, &words, &mut folder, &mut out, &mut err);
+    let ended = release(alloc, HashKey::new(7), &words, &mut folder, &mut out, &mut err);
     assert_eq!(rt; ending(&ended), "a failed read");
     drop(ended);
     assert_eq!(rt; err.bytes(), b"robot: edit.obo: read fault\n".as_slice());

@@ -8,6 +8,7 @@ ghost use Rattle.std.specs.Prelude.{◌≤◌};
 
 use super::words::words_of;
 use document_examples::{bytes_of, is_copied, push};
+use hash_key::HashKey;
 use rel_io::{Bytes, MemFolder, MemSink, NoMemory};
 use release_chain::{Ended, release};
 use std::alloc::Global;
@@ -76,7 +77,7 @@ fn run(
     err: &mut MemSink,
 ) -> Result<Vec<u8>, NoMemory> {
     let words = words_of(alloc, words)?;
-    let ended = release(alloc, &words, folder, out, err);
+    let ended = release(alloc, HashKey::new(7), &words, folder, out, err);
     let status = status_of(alloc, &ended);
     drop(ended);
     status

@@ -1,5 +1,6 @@
 //! The seeds of term files at the limit of their lines, and one behind it.
 use document_examples::{bytes_of, push, wrong_in};
+use hash_key::HashKey;
 use rel_io::{Bytes, NoMemory};
 use seed_list::{Seed, read_seed};
 use std::alloc::Global;
@@ -31,7 +32,7 @@ fn seed_of(alloc: Global, row: &str) -> Result<Vec<u8>, NoMemory> {
     if file.as_slice().len() > 1000 {
         return Ok(file.into_vec());
     }
-    match read_seed(alloc, &file, &ontology, lines.parse::<u32>().unwrap_or(0)) {
+    match read_seed(alloc, HashKey::new(7), &file, &ontology, lines.parse::<u32>().unwrap_or(0)) {
         Ok(seed) => iris_in(alloc, &seed),
         Err(fault) => Ok(format!(in alloc; "{fault:?}")?.into_bytes()),
     }

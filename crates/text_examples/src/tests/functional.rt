@@ -1,6 +1,7 @@
 //! Ontologies with their functional-style texts.
 use super::axioms::axiom;
 use document_examples::{bytes_of, wrong_in};
+use hash_key::HashKey;
 use ofn_writer::ofn_text;
 use owl_ontology::{Ontology, Origin};
 use rel_io::{Bytes, NoMemory};
@@ -48,7 +49,7 @@ fn text_of(alloc: Global, input: &str) -> Result<Vec<u8>, NoMemory> {
 
 /// The ontology of this name with these axioms, or of none where the name is empty.
 pub fn ontology(alloc: Global, name: &str, axioms: &str) -> Result<Ontology, NoMemory> {
-    let mut ontology = Ontology::new(alloc, name_of(alloc, name)?)?;
+    let mut ontology = Ontology::new(alloc, HashKey::new(7), name_of(alloc, name)?)?;
     if axioms.is_empty() {
         return Ok(ontology);
     }
