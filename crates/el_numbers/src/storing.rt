@@ -23,11 +23,7 @@ pub struct FactRows {
 }
 
 /// So many expressions without facts.
-pub fn no_facts(
-    alloc: Global,
-    hash_key: HashKey,
-    count: u32,
-) -> Result<FactRows, AllocError>
+pub fn no_facts(alloc: Global, hash_key: HashKey, count: u32) -> Result<FactRows, AllocError>
     ensures { IfOk result (λ rows. IsEmpty count rows) }
 {
     let mut below = Vec::new(alloc);

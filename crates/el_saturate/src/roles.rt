@@ -25,7 +25,11 @@ fn add_role(alloc: Global, roles: &mut IndexSet<Iri, HashKey>, role: &Iri) -> Re
 
 /// The roles in an axiom.
 #[tactic(auto, unfolding(crate::specs::inner::Numbers::roles_in))]
-fn add_roles_in(alloc: Global, roles: &mut IndexSet<Iri, HashKey>, from: &ElAxiom) -> Result<(), NoMemory>
+fn add_roles_in(
+    alloc: Global,
+    roles: &mut IndexSet<Iri, HashKey>,
+    from: &ElAxiom,
+) -> Result<(), NoMemory>
     ensures { OnOk result (roles.new.keys ≡ insert_all spec.same_iri roles.old.keys (spec.roles_in from.now)) }
 {
     match from {
@@ -46,7 +50,11 @@ fn add_roles_in(alloc: Global, roles: &mut IndexSet<Iri, HashKey>, from: &ElAxio
 
 /// The role in a cell, if it is a restriction.
 #[tactic(auto, unfolding(crate::specs::inner::Numbers::role_in))]
-fn add_role_of(alloc: Global, roles: &mut IndexSet<Iri, HashKey>, cell: &Cell) -> Result<(), NoMemory>
+fn add_role_of(
+    alloc: Global,
+    roles: &mut IndexSet<Iri, HashKey>,
+    cell: &Cell,
+) -> Result<(), NoMemory>
     ensures { OnOk result (roles.new.keys ≡ insert_all spec.same_iri roles.old.keys (spec.role_in cell.now)) }
 {
     match cell {

@@ -130,7 +130,11 @@ fn inclusions(
 }
 
 /// Adds the inclusion that an edge stands for.
-fn push_inclusion(alloc: Global, bodies: &mut IndexSet<Body, HashKey>, one: &Edge) -> Result<(), NoMemory>
+fn push_inclusion(
+    alloc: Global,
+    bodies: &mut IndexSet<Body, HashKey>,
+    one: &Edge,
+) -> Result<(), NoMemory>
     ensures { OnOk result (bodies.new.keys ≡ insert_all same_body bodies.old.keys (said_of one.now ∷ [])) }
 {
     let sub = one.sub.copy(alloc)?;

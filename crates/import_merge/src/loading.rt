@@ -51,11 +51,7 @@ fn file_limit(limits: &Limits) -> u32
 }
 
 /// The ontology of files, with a note of each.
-fn merged(
-    alloc: Global,
-    hash_key: HashKey,
-    sources: &[SourceFile],
-) -> Result<Merged, NoMemory>
+fn merged(alloc: Global, hash_key: HashKey, sources: &[SourceFile]) -> Result<Merged, NoMemory>
     requires few { length sources.now < 2 ^ 32 }
     ensures loaded { IfOk result (IsLoaded sources.now) }
     ensures spellable { IfOk result (λ merged. IsSpellable merged.ontology.name (axioms_of merged.ontology.entries)) }

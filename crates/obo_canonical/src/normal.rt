@@ -28,7 +28,11 @@ pub fn norm(alloc: Global, hash_key: HashKey, document: &Document) -> Result<Doc
 }
 
 /// The clauses of the normal form.
-fn clauses_of(alloc: Global, hash_key: HashKey, document: &Document) -> Result<Vec<Placed>, NoMemory>
+fn clauses_of(
+    alloc: Global,
+    hash_key: HashKey,
+    document: &Document,
+) -> Result<Vec<Placed>, NoMemory>
     ensures { IfOk result (λ made. SameMembers (map unlined made.items) (documents.norm (map unlined document.now))) }
 {
     let mut placed = header(alloc, document.as_slice())?;
@@ -40,7 +44,11 @@ fn clauses_of(alloc: Global, hash_key: HashKey, document: &Document) -> Result<V
 }
 
 /// The clauses that say no axiom.
-fn kept_clauses(alloc: Global, hash_key: HashKey, document: &Document) -> Result<Vec<Placed>, NoMemory>
+fn kept_clauses(
+    alloc: Global,
+    hash_key: HashKey,
+    document: &Document,
+) -> Result<Vec<Placed>, NoMemory>
     ensures { IfOk result (λ made. map unlined made.items ≡ documents.kept (map unlined document.now)) }
 {
     let space = space_of(alloc, document)?;
@@ -57,7 +65,11 @@ fn space_of(alloc: Global, document: &Document) -> Result<Bytes, NoMemory>
 }
 
 /// The clauses that say the axioms.
-fn spelled_clauses(alloc: Global, hash_key: HashKey, document: &Document) -> Result<Vec<Placed>, NoMemory>
+fn spelled_clauses(
+    alloc: Global,
+    hash_key: HashKey,
+    document: &Document,
+) -> Result<Vec<Placed>, NoMemory>
     ensures { IfOk result (λ made. SameMembers (map unlined made.items)
         (documents.spelled (writing_in (documents.space_of (map unlined document.now))) (documents.owl (map unlined document.now)))) }
 {

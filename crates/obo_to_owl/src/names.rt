@@ -83,7 +83,11 @@ pub fn spaced_names(
 }
 
 /// Adds the name that an axiom gives a namespace.
-fn space_name(alloc: Global, names: &mut IndexSet<Name, HashKey>, said: &Axiom) -> Result<(), NoMemory>
+fn space_name(
+    alloc: Global,
+    names: &mut IndexSet<Name, HashKey>,
+    said: &Axiom,
+) -> Result<(), NoMemory>
     ensures { OnOk result ((x : Name) → has_name names.new x ≡
         (option_map_or (name_eq x) (spec.is_namespace said.now) false || has_name names.old x)) }
 {
@@ -169,7 +173,11 @@ fn keep_line(
 }
 
 /// Keeps the least line of a name.
-fn keep_least(lines: &mut IndexMap<Name, u32, HashKey>, name: Name, line: u32) -> Result<(), NoMemory>
+fn keep_least(
+    lines: &mut IndexMap<Name, u32, HashKey>,
+    name: Name,
+    line: u32,
+) -> Result<(), NoMemory>
     ensures { OnOk result ((x : Name) → line_in lines.new x ≡ keep_line x name line (line_in lines.old x)) }
 {
     let least = least_with(lines, &name, line);

@@ -101,7 +101,11 @@ fn spaced_names(alloc: Global, ontology: &Ontology) -> Result<IndexSet<Name, Has
 }
 
 /// Adds the name that an axiom gives a namespace.
-fn space_name(alloc: Global, names: &mut IndexSet<Name, HashKey>, said: &Axiom) -> Result<(), NoMemory>
+fn space_name(
+    alloc: Global,
+    names: &mut IndexSet<Name, HashKey>,
+    said: &Axiom,
+) -> Result<(), NoMemory>
     ensures { OnOk result ((x : Name) → has_name names.new x ≡
         (option_map_or (name_eq x) (spec.is_namespace said.now) false || has_name names.old x)) }
 {

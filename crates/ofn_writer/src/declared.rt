@@ -106,7 +106,11 @@ fn push_name(
 }
 
 /// Adds a name to annotation properties, where it is one.
-fn push_property(alloc: Global, properties: &mut IndexSet<Iri, HashKey>, name: &Name) -> Result<(), NoMemory>
+fn push_property(
+    alloc: Global,
+    properties: &mut IndexSet<Iri, HashKey>,
+    name: &Name,
+) -> Result<(), NoMemory>
     ensures { OnOk result (properties.new.keys ≡ with_property properties.old.keys name.now.kind name.now.iri) }
 {
     if name.kind == Kind::AnnotationProperty {

@@ -43,11 +43,7 @@ impl Model for Ontology {
 
 impl Ontology {
     /// An ontology of this name, or of none, without axioms.
-    pub fn new(
-        alloc: Global,
-        hash_key: HashKey,
-        name: Option<Bytes>,
-    ) -> Result<Ontology, NoMemory>
+    pub fn new(alloc: Global, hash_key: HashKey, name: Option<Bytes>) -> Result<Ontology, NoMemory>
         ensures { IfOk result (λ o. o ≡ record { name = name; entries = [] }) }
     {
         Ok(Ontology {

@@ -51,7 +51,11 @@ pub fn add_all(
 }
 
 /// Adds them one after the other. Where no memory is left, some may stand behind what was there.
-fn add_each(alloc: Global, ontology: &mut Ontology, bodies: &IndexSet<Body, HashKey>) -> Result<(), NoMemory>
+fn add_each(
+    alloc: Global,
+    ontology: &mut Ontology,
+    bodies: &IndexSet<Body, HashKey>,
+) -> Result<(), NoMemory>
     requires proper { (b : Body) → Contains bodies.now.keys b → IsProper (plain b) }
     requires absent { (b : Body) → Contains bodies.now.keys b → ¬ (IsHeld (plain b) ontology.old.entries) }
     ensures added { OnOk result (ontology.new ≡ record ontology.old { entries = ontology.old.entries ++ step_entries (map plain bodies.now.keys) }) }

@@ -24,7 +24,11 @@ pub fn wanted(alloc: Global, ontology: &Ontology) -> Result<IndexSet<Body, HashK
 }
 
 /// Adds what an axiom implies by what it says.
-fn push_wanted(alloc: Global, bodies: &mut IndexSet<Body, HashKey>, body: &Body) -> Result<(), NoMemory>
+fn push_wanted(
+    alloc: Global,
+    bodies: &mut IndexSet<Body, HashKey>,
+    body: &Body,
+) -> Result<(), NoMemory>
     ensures { OnOk result (bodies.new.keys ≡ insert_all same_body bodies.old.keys (wanted_by body.now)) }
 {
     match definition_in(body) {

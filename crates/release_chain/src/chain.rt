@@ -16,7 +16,12 @@ use release_report::Fault;
 use std::alloc::Global;
 
 /// Runs a chain.
-pub fn run_chain<F: Folder>(alloc: Global, hash_key: HashKey, folder: &mut F, chain: &Chain) -> Result<Work, Fault>
+pub fn run_chain<F: Folder>(
+    alloc: Global,
+    hash_key: HashKey,
+    folder: &mut F,
+    chain: &Chain,
+) -> Result<Work, Fault>
     requires apart { NoOutputIsInput chain.now }
     ensures caused { Caused result (F.state folder.old) (F.state folder.new) }
     ensures counts { NoCountFell (F.state folder.old) (F.state folder.new) }

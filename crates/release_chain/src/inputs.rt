@@ -24,7 +24,12 @@ use release_report::{Entry, Fault};
 use std::alloc::Global;
 
 /// Reads and merges the inputs.
-pub fn load_inputs<F: Folder>(alloc: Global, hash_key: HashKey, folder: &mut F, chain: &Chain) -> Result<Work, Fault>
+pub fn load_inputs<F: Folder>(
+    alloc: Global,
+    hash_key: HashKey,
+    folder: &mut F,
+    chain: &Chain,
+) -> Result<Work, Fault>
     ensures caused { Caused result (F.state folder.old) (F.state folder.new) }
     ensures counts { NoCountFell (F.state folder.old) (F.state folder.new) }
     ensures forms { IfOk result HasForms }
@@ -37,7 +42,12 @@ pub fn load_inputs<F: Folder>(alloc: Global, hash_key: HashKey, folder: &mut F, 
 }
 
 /// Reads and merges the files that a chain names, and what they import.
-fn load_files<F: Folder>(alloc: Global, hash_key: HashKey, folder: &mut F, chain: &Chain) -> Result<Merged, LoadFault>
+fn load_files<F: Folder>(
+    alloc: Global,
+    hash_key: HashKey,
+    folder: &mut F,
+    chain: &Chain,
+) -> Result<Merged, LoadFault>
     ensures loads { LoadsAs IsLoaded (λ files. sources_of files chain.now) (F.state folder.old) result (F.state folder.new) }
     ensures holds { (F.state folder.new).holds ≡ (F.state folder.old).holds }
     ensures counts { NoCountFell (F.state folder.old) (F.state folder.new) }

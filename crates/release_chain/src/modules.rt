@@ -72,7 +72,13 @@ fn seed_of(alloc: Global, terms: &Bytes, ontology: &Ontology, bytes: &Bytes) -> 
             return Err(Fault::NoMemory);
         }
     };
-    match read_seed(alloc, ontology.hash_key(), bytes, &space, Limits::release().seed_lines) {
+    match read_seed(
+        alloc,
+        ontology.hash_key(),
+        bytes,
+        &space,
+        Limits::release().seed_lines,
+    ) {
         Ok(seed) => {
             drop(file);
             Ok(seed)

@@ -33,7 +33,12 @@ fn ask(alloc: Global, words: &Vec<String>) -> Result<Command, Fault>
 }
 
 /// Runs what the words ask for.
-fn run_words<F: Folder>(alloc: Global, hash_key: HashKey, words: &Vec<String>, folder: &mut F) -> Result<Work, Fault>
+fn run_words<F: Folder>(
+    alloc: Global,
+    hash_key: HashKey,
+    words: &Vec<String>,
+    folder: &mut F,
+) -> Result<Work, Fault>
     ensures { WordsEnd (asked (map string_bytes words.now.items)) (F.state folder.old) result (F.state folder.new) }
 {
     let command = ask(alloc, words)?;
@@ -41,7 +46,12 @@ fn run_words<F: Folder>(alloc: Global, hash_key: HashKey, words: &Vec<String>, f
 }
 
 /// Runs a command.
-fn run_command<F: Folder>(alloc: Global, hash_key: HashKey, command: &Command, folder: &mut F) -> Result<Work, Fault>
+fn run_command<F: Folder>(
+    alloc: Global,
+    hash_key: HashKey,
+    command: &Command,
+    folder: &mut F,
+) -> Result<Work, Fault>
     requires { IsSound command.now }
     ensures { CommandEnds command.now (F.state folder.old) result (F.state folder.new) }
 {

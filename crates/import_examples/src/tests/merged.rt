@@ -78,7 +78,14 @@ fn loaded(
     } else {
         Some(&catalog_name)
     };
-    match load(alloc, HashKey::new(7), folder, names.as_slice(), catalog, limits) {
+    match load(
+        alloc,
+        HashKey::new(7),
+        folder,
+        names.as_slice(),
+        catalog,
+        limits,
+    ) {
         Ok(merged) => shown(alloc, &merged.copy(alloc)?),
         Err(fault) => shown_fault(alloc, &fault),
     }

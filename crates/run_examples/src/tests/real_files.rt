@@ -60,7 +60,14 @@ fn run(rt: &HostRuntime, alloc: Global, input: &str, output: &str) -> Result<End
     let mut folder = DiskFolder::new(rt);
     let mut out = StdSink::output(rt);
     let mut err = StdSink::error(rt);
-    Ok(release(alloc, HashKey::new(7), &words, &mut folder, &mut out, &mut err))
+    Ok(release(
+        alloc,
+        HashKey::new(7),
+        &words,
+        &mut folder,
+        &mut out,
+        &mut err,
+    ))
 }
 
 #[test]

@@ -48,7 +48,14 @@ fn a_second_read_fails(rt: HostRuntime) -> Result<(), Fail> {
     let mut out = MemSink::new(alloc, 500, Vec::new(alloc))?;
     let mut err = MemSink::new(alloc, 500, Vec::new(alloc))?;
     let words = words_of(alloc, "merge --input edit.obo convert --output r.obo")?;
-    let ended = release(alloc, HashKey::new(7), &words, &mut folder, &mut out, &mut err);
+    let ended = release(
+        alloc,
+        HashKey::new(7),
+        &words,
+        &mut folder,
+        &mut out,
+        &mut err,
+    );
     assert_eq!(rt; ending(&ended), "a failed read");
     drop(ended);
     assert_eq!(rt; err.bytes(), b"robot: edit.obo: read fault\n".as_slice());

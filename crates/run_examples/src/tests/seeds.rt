@@ -32,7 +32,13 @@ fn seed_of(alloc: Global, row: &str) -> Result<Vec<u8>, NoMemory> {
     if file.as_slice().len() > 1000 {
         return Ok(file.into_vec());
     }
-    match read_seed(alloc, HashKey::new(7), &file, &ontology, lines.parse::<u32>().unwrap_or(0)) {
+    match read_seed(
+        alloc,
+        HashKey::new(7),
+        &file,
+        &ontology,
+        lines.parse::<u32>().unwrap_or(0),
+    ) {
         Ok(seed) => iris_in(alloc, &seed),
         Err(fault) => Ok(format!(in alloc; "{fault:?}")?.into_bytes()),
     }
