@@ -1,5 +1,5 @@
 //! Rows: for each number from 0 a set or a list. Past the last row each row is empty.
-ghost use Rattle.std.specs.Prelude.{◌≡◌, ◌<◌, ◌&&◌, [], IfOk, OnOk, length, nat_eq, replicate};
+ghost use Rattle.std.specs.Prelude.{◌≡◌, ◌<◌, ◌&&◌, [], IfOk, OnErr, OnOk, length, nat_eq, replicate};
 ghost use Rattle.std.specs.List.{list_any};
 ghost use Rattle.fact_rows.specs.Rows.{InsertsAt, push_at, row};
 
@@ -66,38 +66,44 @@ pub fn pair_set_has(rows: &[PairSet], at: u32, value: (u32, u32)) -> bool
     }
 }
 
-/// Adds a number to one of the sets, and says whether it is new there.
+/// Adds a number to one of the sets, and says whether it is new there. Where no memory is left, nothing has
+/// happened.
 pub fn insert_at(rows: &mut Vec<NumberSet>, at: u32, value: u32) -> Result<bool, AllocError>
     requires { at < length rows.old.items }
-    ensures { IfOk result (λ is_new. InsertsAt rows.old.items at value is_new rows.new.items) }
+    ensures inserts { IfOk result (λ is_new. InsertsAt rows.old.items at value is_new rows.new.items) }
+    ensures unchanged { OnErr result (rows.new.items ≡ rows.old.items) }
 {
     rows[at as usize].insert(value)
 }
 
-/// Adds a pair to one of the sets, and says whether it is new there.
+/// Adds a pair to one of the sets, and says whether it is new there. Where no memory is left, nothing has
+/// happened.
 pub fn insert_pair_at(
     rows: &mut Vec<PairSet>,
     at: u32,
     value: (u32, u32),
 ) -> Result<bool, AllocError>
     requires { at < length rows.old.items }
-    ensures { IfOk result (λ is_new. InsertsAt rows.old.items at value is_new rows.new.items) }
+    ensures inserts { IfOk result (λ is_new. InsertsAt rows.old.items at value is_new rows.new.items) }
+    ensures unchanged { OnErr result (rows.new.items ≡ rows.old.items) }
 {
     rows[at as usize].insert(value)
 }
 
-/// Adds a number at the end of one of the lists.
+/// Adds a number at the end of one of the lists. Where no memory is left, nothing has happened.
 pub fn push_number_at(rows: &mut Vec<Numbers>, at: u32, value: u32) -> Result<(), AllocError>
     requires { at < length rows.old.items }
-    ensures { OnOk result (rows.new.items ≡ push_at rows.old.items at value) }
+    ensures pushes { OnOk result (rows.new.items ≡ push_at rows.old.items at value) }
+    ensures unchanged { OnErr result (rows.new.items ≡ rows.old.items) }
 {
     rows[at as usize].push(value)
 }
 
-/// Adds a pair at the end of one of the lists.
+/// Adds a pair at the end of one of the lists. Where no memory is left, nothing has happened.
 pub fn push_pair_at(rows: &mut Vec<Pairs>, at: u32, value: (u32, u32)) -> Result<(), AllocError>
     requires { at < length rows.old.items }
-    ensures { OnOk result (rows.new.items ≡ push_at rows.old.items at value) }
+    ensures pushes { OnOk result (rows.new.items ≡ push_at rows.old.items at value) }
+    ensures unchanged { OnErr result (rows.new.items ≡ rows.old.items) }
 {
     rows[at as usize].push(value)
 }
