@@ -19,7 +19,7 @@ loop-i-preserved c =
     let l : x.0 < length c.loop-i.rows.items = omega (arith, p.0, c.loop-i.invariant.long) in
     let n : c.loop-i.i ≡ length (take c.loop-i.i c.args.edges.now) = sym (length-take-le c.loop-i.i c.args.edges.now (let t = c.loop-i-test.true in omega arith)) in
     record {
-      long = ap length c.in_ok-push_pair_at.ensures ∙ length-set c.loop-i.rows.items x.0 (row c.loop-i.rows.items x.0 ++ (x.1, c.loop-i.i) ∷ []) ∙ c.loop-i.invariant.long;
+      long = ap length c.in_ok-push_pair_at.ensures.pushes ∙ length-set c.loop-i.rows.items x.0 (row c.loop-i.rows.items x.0 ++ (x.1, c.loop-i.i) ∷ []) ∙ c.loop-i.invariant.long;
       rows = subst (λ es. AreRows es c.push_pair_at.new.rows.items) (sym (take_more c.args.edges.now c.loop-i.i (0, 0) c.loop-i-test.true))
-          (rows_more (take c.loop-i.i c.args.edges.now) c.loop-i.rows.items c.push_pair_at.new.rows.items x.0 x.1 c.loop-i.i c.loop-i.invariant.rows n l c.in_ok-push_pair_at.ensures);
+          (rows_more (take c.loop-i.i c.args.edges.now) c.loop-i.rows.items c.push_pair_at.new.rows.items x.0 x.1 c.loop-i.i c.loop-i.invariant.rows n l c.in_ok-push_pair_at.ensures.pushes);
     }

@@ -18,7 +18,7 @@ loop-key-preserved c =
     let l = c.requires x.0 x.1 x.2 (in_at c.args.triples.now c.loop-key.key-index (0, 0, 0) c.loop-key-test.true) in
     let m : x.0 < length c.loop-key.rows.items = omega (arith, l, c.loop-key.invariant.long) in
     record {
-      long = ap length c.in_ok-push_pair_at.ensures ∙ length-set c.loop-key.rows.items x.0 (row c.loop-key.rows.items x.0 ++ (x.1, x.2) ∷ []) ∙ c.loop-key.invariant.long;
+      long = ap length c.in_ok-push_pair_at.ensures.pushes ∙ length-set c.loop-key.rows.items x.0 (row c.loop-key.rows.items x.0 ++ (x.1, x.2) ∷ []) ∙ c.loop-key.invariant.long;
       index = subst (λ ps. IsPairIndexOf ps c.push_pair_at.new.rows.items) (sym (take_more c.args.triples.now c.loop-key.key-index (0, 0, 0) c.loop-key-test.true))
-          (pair_index_more _ c.loop-key.rows.items c.push_pair_at.new.rows.items x.0 x.1 x.2 m c.in_ok-push_pair_at.ensures c.loop-key.invariant.index);
+          (pair_index_more _ c.loop-key.rows.items c.push_pair_at.new.rows.items x.0 x.1 x.2 m c.in_ok-push_pair_at.ensures.pushes c.loop-key.invariant.index);
     }
