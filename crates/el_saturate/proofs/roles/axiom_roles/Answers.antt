@@ -5,7 +5,7 @@ use Rattle.el_saturate.proofs.RoleLemmas.{axiom_next}
 use Rattle.el_saturate.proofs.roles.axiom_roles.Goals as goal
 
 pub loop-at-init : goal.loop-at-init
-loop-at-init c = (subst NoRepeats (sym c.new-roles.ensures.empty) none, λ r i. in_none i)
+loop-at-init c = (subst NoRepeats (sym c.with_hasher-roles.ensures.empty) none, λ r i. in_none i)
 
 pub loop-at-preserved : goal.loop-at-preserved
 loop-at-preserved c =

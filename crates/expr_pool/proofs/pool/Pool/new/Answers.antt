@@ -4,7 +4,7 @@ use Rattle.expr_pool.specs.Pool.{IsPool, trees_of}
 use Rattle.expr_pool.proofs.pool.Pool.new.Goals as goal
 
 pub invariant_of-result : goal.invariant_of-result
-invariant_of-result c = subst IsPool (sym c.new.ensures.empty) pool_none
+invariant_of-result c = subst IsPool (sym c.with_hasher.ensures.empty) pool_none
 
 pub returns : goal.returns
-returns c = ap trees_of c.new.ensures.empty ∙ trees_none
+returns c = ap trees_of c.with_hasher.ensures.empty ∙ trees_none
