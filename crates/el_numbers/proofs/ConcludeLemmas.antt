@@ -43,7 +43,7 @@ has_number {x} i = any_in nat_eq eqb-true (λ (y : ℕ). eq-eqb y y refl) x i
 pub number_in : (x : ℕ) (xs : List ℕ) → list_any (nat_eq x) xs ≡ true → In x xs
 number_in x xs h = in_any nat_eq eqb-true (λ (y : ℕ). eq-eqb y y refl) x xs h
 
-all_hold : (test : ℕ → Bool) (ys : List ℕ) → ((y : ℕ) → In y ys → test y ≡ true) → list_all test ys ≡ true
+pub all_hold : (test : ℕ → Bool) (ys : List ℕ) → ((y : ℕ) → In y ys → test y ≡ true) → list_all test ys ≡ true
 all_hold test [] h = refl
 all_hold test (y ∷ ys) h = rw (h y here) (all_hold test ys (λ x i. h x (there i)))
 

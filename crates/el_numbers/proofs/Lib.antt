@@ -4,6 +4,7 @@ pub mod ConcludeLemmas
 pub mod PutLemmas
 pub mod AddLemmas
 pub mod LoopLemmas
+pub mod MetLemmas
 pub mod StartLemmas
 pub mod OrderLemmas
 pub mod CountLemmas

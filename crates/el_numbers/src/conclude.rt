@@ -1,11 +1,12 @@
 //! What follows at once from a fact and the table: for each rule with that fact among its premises. The letters are those
 //! of the rules.
-ghost use Rattle.std.specs.Prelude.{◌≡◌, ◌++◌, OnOk, nat_eq};
-ghost use Rattle.std.specs.List.{list_all, list_any};
+ghost use Rattle.std.specs.Prelude.{◌≡◌, ◌++◌, OnOk};
 ghost use Rattle.fact_rows.specs.Rows.{row};
 ghost use Rattle.el_numbers.specs.inner.Conclude.{told_ends, belows, links, shape_links, back_belows, link_belows, first_links, second_links, and_belows, clashes, back_nothings, role_links, link_nothing, below_conclusions, link_conclusions, conclusions};
+ghost use Rattle.el_numbers.specs.inner.Met.{IsMet};
 
 use crate::index::{Indexes, shape_at};
+use crate::met::{Met, is_met};
 use crate::part::NOTHING;
 use crate::storing::FactRows;
 use crate::{Fact, NumberedPart, Shape};
@@ -136,37 +137,21 @@ fn push_second_links(
     Ok(())
 }
 
-/// Whether a row has each of the numbers.
-fn has_all(rows: &[NumberSet], at: u32, numbers: &[u32]) -> bool
-    ensures { result ≡ list_all (λ x. list_any (nat_eq x) (row rows.now at)) numbers.now }
-{
-    for x in numbers {
-        if !set_has(rows, at, *x) {
-            return false;
-        }
-    }
-    true
-}
-
-/// Whether all operands of an And stand in a row.
-fn is_met(part: &NumberedPart, rows: &[NumberSet], c: u32, a: u32) -> bool
-    ensures { result ≡ list_all (λ x. list_any (nat_eq x) (row rows.now c)) (row part.now.operands.items a) }
-{
-    has_all(rows, c, numbers_at(&part.operands, a))
-}
-
 /// C is below each intersection whose operands all stand in its row.
 fn push_and_belows(
     out: &mut Vec<Fact>,
+    met: &mut Met,
     part: &NumberedPart,
     rows: &[NumberSet],
     c: u32,
     ands: &[u32],
 ) -> Result<(), AllocError>
-    ensures { OnOk result (out.new.items ≡ out.old.items ++ and_belows part.now.operands.items c (row rows.now c) ands.now) }
+    requires { IsMet part.now.operands.items rows.now met.old }
+    ensures out { OnOk result (out.new.items ≡ out.old.items ++ and_belows part.now.operands.items c (row rows.now c) ands.now) }
+    ensures met { OnOk result (IsMet part.now.operands.items rows.now met.new) }
 {
     for a in ands {
-        if is_met(part, rows, c, *a) {
+        if is_met(met, part, rows, c, *a)? {
             out.push(Fact::Below(c, *a))?;
         }
     }
@@ -233,17 +218,27 @@ fn conclude_below(
     part: &NumberedPart,
     indexes: &Indexes,
     table: &FactRows,
+    met: &mut Met,
     c: u32,
     d: u32,
     out: &mut Vec<Fact>,
 ) -> Result<(), AllocError>
-    ensures { OnOk result (out.new.items ≡ out.old.items ++ below_conclusions part.now indexes.now table.now c d) }
+    requires { IsMet part.now.operands.items table.now.below.items met.old }
+    ensures out { OnOk result (out.new.items ≡ out.old.items ++ below_conclusions part.now indexes.now table.now c d) }
+    ensures met { OnOk result (IsMet part.now.operands.items table.now.below.items met.new) }
 {
     push_told(out, c, numbers_at(&indexes.told, d))?;
     push_told(out, c, numbers_at(&part.operands, d))?;
     push_shape_links(out, c, shape_at(&part.shapes, d))?;
     push_back_belows(out, pairs_at(&indexes.somes, d), pairs_at(&table.back, c))?;
-    push_and_belows(out, part, &table.below, c, numbers_at(&indexes.ands, d))?;
+    push_and_belows(
+        out,
+        met,
+        part,
+        &table.below,
+        c,
+        numbers_at(&indexes.ands, d),
+    )?;
     push_clashes(out, &table.below, c, numbers_at(&indexes.disjoint, d))?;
     push_back_nothings(out, d, pairs_at(&table.back, c))?;
     Ok(())
@@ -285,13 +280,16 @@ pub fn conclude(
     part: &NumberedPart,
     indexes: &Indexes,
     table: &FactRows,
+    met: &mut Met,
     fact: Fact,
     out: &mut Vec<Fact>,
 ) -> Result<(), AllocError>
-    ensures { OnOk result (out.new.items ≡ out.old.items ++ conclusions part.now indexes.now table.now fact) }
+    requires { IsMet part.now.operands.items table.now.below.items met.old }
+    ensures out { OnOk result (out.new.items ≡ out.old.items ++ conclusions part.now indexes.now table.now fact) }
+    ensures met { OnOk result (IsMet part.now.operands.items table.now.below.items met.new) }
 {
     match fact {
-        Fact::Below(c, d) => conclude_below(part, indexes, table, c, d, out),
+        Fact::Below(c, d) => conclude_below(part, indexes, table, met, c, d, out),
         Fact::Link(c, r, d) => conclude_link(part, indexes, table, c, r, d, out),
     }
 }

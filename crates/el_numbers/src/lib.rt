@@ -15,6 +15,7 @@ mod fact;
 mod fault;
 mod index;
 mod laws;
+mod met;
 mod part;
 mod proper;
 mod saturation;

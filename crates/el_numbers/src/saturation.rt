@@ -8,6 +8,7 @@ ghost use Rattle.el_numbers.specs.inner.Storing.{IsLinked, IsCounted, state_of};
 
 use crate::conclude::conclude;
 use crate::index::{Indexes, indexes_of};
+use crate::met::Met;
 use crate::part::THING;
 use crate::storing::{FactRows, no_facts, put_all};
 use crate::{Fact, NumberedPart, SaturationFault, Table};
@@ -43,12 +44,13 @@ fn saturated_rows(
 {
     let count = part.shapes.len() as u32;
     let mut rows = no_facts(alloc, hash_key, count)?;
+    let mut met = Met::new(alloc, hash_key);
     let mut waiting = Vec::new(alloc);
     let mut out = start(alloc, count)?;
     put_all(&mut rows, &mut waiting, out.as_slice(), limit)?;
     while let Some(fact) = waiting.pop() {
         out.clear();
-        conclude(part, indexes, &rows, fact, &mut out)?;
+        conclude(part, indexes, &rows, &mut met, fact, &mut out)?;
         put_all(&mut rows, &mut waiting, out.as_slice(), limit)?;
     }
     Ok(rows)
