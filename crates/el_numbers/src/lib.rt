@@ -17,7 +17,6 @@ mod index;
 mod laws;
 mod met;
 mod part;
-mod proper;
 mod saturation;
 mod storing;
 mod table;
@@ -28,7 +27,6 @@ pub use laws::{
     answers_exclude, below_is_transitive, saturated_is_largest, saturated_rows_are_ordered,
 };
 pub use part::{NOTHING, NumberedPart, Shape, THING};
-pub use proper::is_proper;
 pub use saturation::saturate;
 pub use table::Table;
 

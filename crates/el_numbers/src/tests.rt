@@ -1,7 +1,10 @@
 //! Small parts by hand: each rule alone, and rules that meet. Thing is 0, Nothing is 1, classes come next.
-use crate::{Fact, NumberedPart, SaturationFault, Shape, Table, is_proper, saturate};
+mod proper;
+
+use crate::{Fact, NumberedPart, SaturationFault, Shape, Table, saturate};
 use fact_rows::empty_numbers;
 use hash_key::HashKey;
+use proper::is_proper;
 use std::alloc::{AllocError, Global};
 use std::test::Fail;
 

@@ -3,7 +3,7 @@ use Rattle.fact_rows.specs.Member.{In}
 use Rattle.fact_rows.specs.Rows.{row}
 use Rattle.el_numbers.specs.inner.Fits.{Fits}
 use Rattle.el_numbers.proofs.ProperLemmas.{proper}
-use Rattle.el_numbers.proofs.proper.is_proper.Goals as goal
+use Rattle.el_numbers.proofs.tests.proper.is_proper.Goals as goal
 
 pub returns : goal.returns
 returns c = λ t.

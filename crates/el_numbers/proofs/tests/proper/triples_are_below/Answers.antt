@@ -1,7 +1,7 @@
 use Rattle.std.proofs.Common.{arith, ◌<◌, slice_index_or}
 use Rattle.std.proofs.lemmas.List.{take_more, take_all}
 use Rattle.el_numbers.proofs.ProperLemmas.{triples_more}
-use Rattle.el_numbers.proofs.proper.triples_are_below.Goals as goal
+use Rattle.el_numbers.proofs.tests.proper.triples_are_below.Goals as goal
 
 pub loop-one-preserved : goal.loop-one-preserved
 loop-one-preserved c =

@@ -1,4 +1,4 @@
-//! The test of a part: whether its numbers fit together.
+//! A test of a part made by hand: whether its numbers fit together.
 ghost use Rattle.std.specs.Prelude.{◌≡◌, ℕ, ◌<◌, Option, length, slice_get, IsTrue};
 ghost use Rattle.fact_rows.specs.Member.{In};
 ghost use Rattle.fact_rows.specs.Rows.{row};
@@ -70,7 +70,7 @@ fn all_fit(count: u32, shapes: &[Shape], operands: &[Numbers]) -> bool
 }
 
 /// Whether the numbers of a part fit together, so that it can be saturated.
-pub fn is_proper(part: &NumberedPart) -> bool
+pub(super) fn is_proper(part: &NumberedPart) -> bool
     ensures { IsTrue result → IsProper part.now }
 {
     let size = part.shapes.len();

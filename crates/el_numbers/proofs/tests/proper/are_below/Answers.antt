@@ -1,7 +1,7 @@
 use Rattle.std.proofs.Common.{arith, ◌<◌, slice_index_or}
 use Rattle.std.proofs.lemmas.List.{take_more, take_all}
 use Rattle.el_numbers.proofs.ProperLemmas.{below_more}
-use Rattle.el_numbers.proofs.proper.are_below.Goals as goal
+use Rattle.el_numbers.proofs.tests.proper.are_below.Goals as goal
 
 pub loop-number-preserved : goal.loop-number-preserved
 loop-number-preserved c =
