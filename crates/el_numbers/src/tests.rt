@@ -330,3 +330,46 @@ fn is_too_many(answer: &Result<Table, SaturationFault>, limit: u64) -> bool {
         _ => false,
     }
 }
+
+/// Twenty classes from 2 on, their intersections 22 and 23, and two classes more.
+fn wide_shapes(alloc: Global) -> Result<Vec<Shape>, AllocError> {
+    let mut shapes = Vec::new(alloc);
+    for at in 0..26 {
+        shapes.push(if at == 22 || at == 23 {
+            Shape::And
+        } else {
+            Shape::Name
+        })?;
+    }
+    Ok(shapes)
+}
+
+/// Both intersections have all twenty classes, the one upwards, the other downwards. Each class is below the next, the
+/// first of the two further ones is below the first, and the second below the second.
+fn wide_told(alloc: Global) -> Result<Vec<Told>, AllocError> {
+    let mut told = Vec::new(alloc);
+    for at in 2..22 {
+        told.push(Told::Operand(22, at))?;
+        told.push(Told::Operand(23, 23 - at))?;
+    }
+    for at in 2..21 {
+        told.push(Told::Inclusion(at, at + 1))?;
+    }
+    told.push(Told::Inclusion(24, 2))?;
+    told.push(Told::Inclusion(25, 3))?;
+    Ok(told)
+}
+
+/// Intersections whose operands are found one after another, from either end, and that one expression misses by one
+/// operand. The facts: 51 of their own, 190 among the twenty classes, 21 of each intersection, 2 more of the first class,
+/// and 22 and 19 of the further ones.
+#[test]
+fn wide_intersections(rt: HostRuntime) -> Result<(), Fail> {
+    let shapes = wide_shapes(rt.alloc())?;
+    let told = wide_told(rt.alloc())?;
+    let table = table_of(rt.alloc(), shapes.as_slice(), told.as_slice(), 326)?;
+    assert_eq!(rt; table.facts(), 326);
+    assert!(rt; table.below(24, 22) && table.below(24, 23));
+    assert!(rt; !table.below(25, 22) && !table.below(25, 23));
+    Ok(())
+}
