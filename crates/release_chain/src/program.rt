@@ -80,7 +80,8 @@ fn finish<F: Folder, O: Sink>(
     }
 }
 
-/// Does all that the program does, and says how it ended. `words` are those behind the program's name.
+/// Does all that the program does, and says how it ended. `words` are those behind the program's name. The tables of the run
+/// hash with `hash_key`, which no clause names: no answer goes by it.
 ///
 /// If it ends with status 0, each file that it wrote is the text of axioms that follow from the merged axioms, and every
 /// finite model of them agrees, on the same domain, over the names common to all seeds before it, with a model of the merged
