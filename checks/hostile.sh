@@ -52,6 +52,21 @@ prefixes() {
     for (i = 0; i < n; i++) printf "[Term]\nid: %s:%07d\nis_a: %s:%07d\n", long, i, long, int(i / 2)
   }'
 }
+# Ids that fall together in a table that hashes as the kit's do without a key: in each row both texts take the hash from
+# one state of 64 bits to the same next one, so that any choice of one from each row has the same hash.
+rows='PAIRS'
+# colliding N  so many of these ids, and 2 to the number of rows at most.
+colliding() {
+  awk -v n="$1" -v rows="$rows" 'BEGIN {
+    count = split(rows, row, "\n")
+    for (j = 1; j <= count; j++) { split(row[j], one, " "); first[j] = one[1]; second[j] = one[2] }
+    for (i = 0; i < n && i < 2 ^ count; i++) {
+      id = "http://a/"
+      for (j = 1; j <= count; j++) id = id (int(i / 2 ^ (j - 1)) % 2 ? second[j] : first[j])
+      printf "[Term]\nid: %s\n", id
+    }
+  }'
+}
 # qualifiers BYTES  one line of at most so many bytes, with as many qualifiers as fit; with a second word, all are the same.
 qualifiers() {
   awk -v most="$1" -v same="${2:-}" 'BEGIN {
@@ -161,6 +176,7 @@ twice 'a frame with N names' 0 "$size" two_names
 twice 'N frames of one name' 0 "$size" names
 twice 'ids that share 200 bytes' 0 $((size / 10)) prefixes
 twice 'ids that share 200 bytes, reason relax reduce' 0 $((size / 10)) prefixes "${all_steps[@]}"
+twice 'ids that fall together without a key' 0 $((size / 25)) colliding "${to_ofn[@]}"
 twice 'a union of N / 100 operands' 0 $((size / 100)) union
 twice 'a union of N / 100 operands, reason relax reduce' 0 $((size / 100)) union "${all_steps[@]}"
 twice 'an intersection of N / 100 restrictions, reason relax reduce' 0 $((size / 100)) intersection "${all_steps[@]}"
