@@ -25,14 +25,14 @@ use Rattle.obo_text.specs.Order.{id_at, ids_of, later_clauses}
 use Rattle.obo_text.specs.Text.{name_at, name_in, only_one, text_in}
 use Rattle.obo_text.specs.inner.Rows.{held_from, name_for, one_held, row_of}
 use Rattle.obo_text.specs.declared.names.Named.TheVariants.{Many, One}
-use Rattle.obo_text.specs.declared.rows.Row.{Row}
+use Rattle.obo_text.specs.inner.RowState.{RowState}
 use Rattle.obo_text.proofs.MemberLemmas.{id_each, later_is}
 use Rattle.obo_text.proofs.RowLemmas.{is_below, run_id, run_of, runs_in}
 use Rattle.obo_text.proofs.SoundLemmas.{AreSound}
 
 -- ---- what is held is the only name
 
-many_stay : (id : List ℕ) (rows : List Row) → held_from id (Some Many) rows ≡ Some Many
+many_stay : (id : List ℕ) (rows : List RowState) → held_from id (Some Many) rows ≡ Some Many
 many_stay id [] = refl
 many_stay id (row ∷ rows) =
     elim (row.is_name && is_eq (text_cmp row.id id)) as (λ b. held_from id (cond b (Some Many) (Some Many)) rows ≡ Some Many) [
@@ -41,10 +41,10 @@ many_stay id (row ∷ rows) =
     ]
 
 -- the two tests of a row's id
-same_test : (row : Row) (id : List ℕ) → (row.is_name && bytes_eq row.id id) ≡ (row.is_name && is_eq (text_cmp row.id id))
+same_test : (row : RowState) (id : List ℕ) → (row.is_name && bytes_eq row.id id) ≡ (row.is_name && is_eq (text_cmp row.id id))
 same_test row id = ap (λ b. row.is_name && b) (texts_ties row.id id)
 
-held_one : (id : List ℕ) (name : List ℕ) (rows : List Row) → one_held (held_from id (Some (One name)) rows) ≡ only_one (name ∷ filter_map (name_for id) rows)
+held_one : (id : List ℕ) (name : List ℕ) (rows : List RowState) → one_held (held_from id (Some (One name)) rows) ≡ only_one (name ∷ filter_map (name_for id) rows)
 held_one id name [] = refl
 held_one id name (row ∷ rows) =
     elim (row.is_name && is_eq (text_cmp row.id id)) as (λ b. (row.is_name && is_eq (text_cmp row.id id)) ≡ b → one_held (held_from id (cond b (Some Many) (Some (One name))) rows) ≡ only_one (name ∷ cons_option (name_for id row) (filter_map (name_for id) rows))) [
@@ -52,7 +52,7 @@ held_one id name (row ∷ rows) =
       | false ↦ λ is. held_one id name rows ∙ sym (ap (λ b. only_one (name ∷ cons_option (cond b (Some row.value) None) (filter_map (name_for id) rows))) (same_test row id ∙ is))
     ] refl
 
-pub held_is : (id : List ℕ) (rows : List Row) → one_held (held_from id None rows) ≡ only_one (filter_map (name_for id) rows)
+pub held_is : (id : List ℕ) (rows : List RowState) → one_held (held_from id None rows) ≡ only_one (filter_map (name_for id) rows)
 held_is id [] = refl
 held_is id (row ∷ rows) =
     elim (row.is_name && is_eq (text_cmp row.id id)) as (λ b. (row.is_name && is_eq (text_cmp row.id id)) ≡ b → one_held (held_from id (cond b (Some (One row.value)) None) rows) ≡ only_one (cons_option (name_for id row) (filter_map (name_for id) rows))) [
@@ -106,7 +106,7 @@ only_mapped (a ∷ []) = refl
 only_mapped (a ∷ b ∷ more) = refl
 
 -- rows of other frames give no name
-no_names : (id : List ℕ) (rows : List Row) → ((row : Row) → In row rows → bytes_eq row.id id ≡ false) → filter_map (name_for id) rows ≡ []
+no_names : (id : List ℕ) (rows : List RowState) → ((row : RowState) → In row rows → bytes_eq row.id id ≡ false) → filter_map (name_for id) rows ≡ []
 no_names id [] each = refl
 no_names id (row ∷ rows) each =
     ap (λ b. cons_option (cond (row.is_name && b) (Some row.value) None) (filter_map (name_for id) rows)) (each row (inl refl))

@@ -22,7 +22,7 @@ use Rattle.obo_frames.specs.Frames.{id_in}
 use Rattle.obo_text.specs.Order.{id_at, ids_of, later_clause, later_clauses, order_of, place_behind, same_kind}
 use Rattle.obo_text.specs.Text.{head, heads_of}
 use Rattle.obo_text.specs.inner.Rows.{clause_place, key_behind_id, row_at, row_key, row_of, rows_in}
-use Rattle.obo_text.specs.declared.rows.Row.{Row}
+use Rattle.obo_text.specs.inner.RowState.{RowState}
 use Rattle.obo_text.proofs.MemberLemmas.{head_framed, later_is, same_kind_itself, written_clauses, written_members}
 use Rattle.obo_text.proofs.PlaceLemmas.{place_above}
 use Rattle.obo_text.proofs.RunLemmas.{RunsRise, runs_rise}
@@ -34,12 +34,12 @@ pub text_itself : (one other : List ℕ) → one ≡ other → text_cmp one othe
 text_itself one other same = ap (text_cmp one) (sym same) ∙ tied_itself nat_list_cmp_total one
 
 -- of one frame
-one_frame : (one other : Row) → one.id ≡ other.id → by_key texts_cmp row_key one other ≡ by_key texts_cmp key_behind_id one other
+one_frame : (one other : RowState) → one.id ≡ other.id → by_key texts_cmp row_key one other ≡ by_key texts_cmp key_behind_id one other
 one_frame one other same =
     ap (λ o. ordering_then o (by_key texts_cmp key_behind_id one other)) (text_itself one.id other.id same)
 
 -- of two frames
-two_frames : (one other : Row) → text_cmp one.id other.id ≡ Less → by_key texts_cmp row_key one other ≡ Less
+two_frames : (one other : RowState) → text_cmp one.id other.id ≡ Less → by_key texts_cmp row_key one other ≡ Less
 two_frames one other less = ap (λ o. ordering_then o (by_key texts_cmp key_behind_id one other)) less
 
 module _ (kind : FrameKind) (id : List ℕ) where
@@ -75,13 +75,13 @@ module _ (kind : FrameKind) (id : List ℕ) where
 
 -- ---- the rows of a frame
 
-abbrev pub run_of : FrameKind → List Framed → List ℕ → List Row
+abbrev pub run_of : FrameKind → List Framed → List ℕ → List RowState
 run_of kind ds id = row_of kind id (id_clause id) ∷ map (row_of kind id) (later_clauses ds kind id)
 
-pub run_id : (kind : FrameKind) (ds : List Framed) (id : List ℕ) (row : Row) → In row (run_of kind ds id) → row.id ≡ id
-run_id kind ds id row (inl first) = ap (λ (r : Row). r.id) (sym first)
+pub run_id : (kind : FrameKind) (ds : List Framed) (id : List ℕ) (row : RowState) → In row (run_of kind ds id) → row.id ≡ id
+run_id kind ds id row (inl first) = ap (λ (r : RowState). r.id) (sym first)
 run_id kind ds id row (inr later) =
-    let from = In-from_map (row_of kind id) row (later_clauses ds kind id) later in ap (λ (r : Row). r.id) (sym from.2)
+    let from = In-from_map (row_of kind id) row (later_clauses ds kind id) later in ap (λ (r : RowState). r.id) (sym from.2)
 
 pub later_none : (ds : List Framed) (kind : FrameKind) (id : List ℕ) (c : Clause) → In c (later_clauses ds kind id) → id_in c ≡ None
 later_none ds kind id c here = (later_is ds kind id c here).none
@@ -109,7 +109,7 @@ runs_apart kind ds (id ∷ ids) rises = (
   runs_apart kind ds ids rises.1,
 )
 
-abbrev pub runs_in : FrameKind → List Framed → List Row
+abbrev pub runs_in : FrameKind → List Framed → List RowState
 runs_in kind ds = flat_map (run_of kind ds) (ids_of kind ds)
 
 runs_in_rise : (kind : FrameKind) → (kind ≡ kinds.Header → ⊥) → (ds : List Framed) → RisesOn texts_cmp row_key (runs_in kind ds)
@@ -178,18 +178,18 @@ header_rows ds =
 -- ---- sorted
 
 -- the rows are told by their keys, and these rows are they, sorted
-pub record AreSortedAs (rows sorted : List Row) : Type 0 where
+pub record AreSortedAs (rows sorted : List RowState) : Type 0 where
   pub told : AreTold row_key rows
   pub same : sorted_on texts_cmp row_key rows ≡ sorted
 
-sorted_as : (rows rising : List Row) → RisesOn texts_cmp row_key rising → SameMembers rows rising → AreSortedAs rows rising
+sorted_as : (rows rising : List RowState) → RisesOn texts_cmp row_key rising → SameMembers rows rising → AreSortedAs rows rising
 sorted_as rows rising rises same = record {
   told = λ a b p q. AreTold-risesOn texts_cmp texts_order row_key rising rises a b ((same a).0 p) ((same b).0 q);
   same = sorted_on-is texts_cmp texts_order row_key rows rising rises same;
 }
 
 module _ (ds : List Framed) (sound : AreSound ds) where
-  members : (kind : FrameKind) (rows : List Row) → rows_in kind (written_clauses ds) ≡ rows → SameMembers (rows_in kind ds) rows
+  members : (kind : FrameKind) (rows : List RowState) → rows_in kind (written_clauses ds) ≡ rows → SameMembers (rows_in kind ds) rows
   members kind rows is =
       subst (SameMembers (rows_in kind ds)) is (same_filter_map (row_at kind) ds (written_clauses ds) (same_sym (written_clauses ds) ds (written_members ds sound)))
 

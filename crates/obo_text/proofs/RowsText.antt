@@ -24,7 +24,7 @@ use Rattle.obo_text.specs.Order.{ids_of, later_clauses}
 use Rattle.obo_text.specs.Text.{canonical_text, clause_lines, comment_of, frame_line, frame_lines, head, heads_of, last_id, line_of, lines_in, name_at, name_behind, target_kind, term_tags, typedef_tags}
 use Rattle.obo_text.specs.inner.Names.{look_at, text_of_rows, text_with}
 use Rattle.obo_text.specs.inner.Rows.{Looks, clause_place, head_before, head_text, looked_up, printed_comment, row_key, row_of, row_text, rows_in}
-use Rattle.obo_text.specs.declared.rows.Row.{Row}
+use Rattle.obo_text.specs.inner.RowState.{RowState}
 use Rattle.obo_text.proofs.NameLemmas.{names_in_runs}
 use Rattle.obo_text.proofs.PlaceLemmas.{place_above}
 use Rattle.obo_text.proofs.RowLemmas.{AreSortedAs, later_none, place_is, run_of, runs_in, sorted_header, sorted_runs}
@@ -66,7 +66,7 @@ comment_is (Some name) = refl
 regrouped : (a b c d e : List ℕ) → ((a ++ 58 ∷ (b ++ c)) ++ d) ++ e ≡ a ++ 58 ∷ (b ++ (c ++ (d ++ e)))
 regrouped a b c d e = simp append_assoc
 
-no_head : (kind : FrameKind) (row : Row) → (kind ≡ kinds.Header) ⊎ (0 < row.place) → head_before kind row ≡ []
+no_head : (kind : FrameKind) (row : RowState) → (kind ≡ kinds.Header) ⊎ (0 < row.place) → head_before kind row ≡ []
 no_head kind row (inl header) =
     ap (λ k. cond (row.place == 0) (head_text k) []) header ∙ either (row.place == 0)
   where
@@ -153,14 +153,14 @@ module _ (ds : List Framed) (sound : AreSound ds) where
       ∙ sym (written_is (lines_in ds))
 
 -- what the rows of a kind were sorted to
-abbrev pub IsSortedTo : List Row → List Row → Type 0
+abbrev pub IsSortedTo : List RowState → List RowState → Type 0
 IsSortedTo rows sorted = AreTold row_key rows → sorted ≡ sorted_on texts_cmp row_key rows
 
-sorted_to : (rows target given sorted : List Row) → AreSortedAs rows target → given ≡ rows → IsSortedTo given sorted → sorted ≡ target
+sorted_to : (rows target given sorted : List RowState) → AreSortedAs rows target → given ≡ rows → IsSortedTo given sorted → sorted ≡ target
 sorted_to rows target given sorted are same is =
     is (subst (AreTold row_key) (sym same) are.told) ∙ ap (sorted_on texts_cmp row_key) same ∙ are.same
 
-pub whole_text : (placed : List Placed) (h t y i header terms typedefs instances : List Row) → IsSound placed
+pub whole_text : (placed : List Placed) (h t y i header terms typedefs instances : List RowState) → IsSound placed
     → h ≡ rows_in kinds.Header (map unlined placed) → t ≡ rows_in kinds.Term (map unlined placed) → y ≡ rows_in kinds.Typedef (map unlined placed) → i ≡ rows_in kinds.Instance (map unlined placed)
     → IsSortedTo h header → IsSortedTo t terms → IsSortedTo y typedefs → IsSortedTo i instances
     → text_of_rows header terms typedefs instances ≡ canonical_text (map unlined placed)

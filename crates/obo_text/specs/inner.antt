@@ -1,3 +1,4 @@
 pub mod Names
 pub mod RowOrder
+pub mod RowState
 pub mod Rows

@@ -52,7 +52,7 @@ fn add_row(alloc: Global, names: &mut BTreeMap<Bytes, Named>, row: &Row) -> Resu
         return Ok(());
     }
     let id = row.id.copy(alloc)?;
-    let held = with_name(alloc, names.get(&row.id), &row.value)?;
+    let held = with_name(alloc, names.get(row.id), &row.value)?;
     drop(names.insert(id, held)?);
     Ok(())
 }

@@ -15,19 +15,21 @@ use clause_printer::{push_block, push_value};
 use obo_clause::Clause;
 use obo_frames::Placed;
 use obo_tags::FrameKind;
-use rel_io::{Bytes, Dup, NoMemory};
+use rel_io::{Bytes, NoMemory};
 use std::alloc::Global;
 use std::cmp::Ordering;
+use std::marker::Model;
 
-/// A clause of the frames of one kind. It is compared by all parts but the last two, which follow from the others.
+/// A clause of the frames of one kind, which borrows its id and its tag from the document. It is compared by all parts but
+/// the last two, which follow from the others.
 #[derive(Drop)]
-pub struct Row {
+pub struct Row<'a> {
     /// The id of its frame.
-    pub id: Bytes,
+    pub id: &'a Bytes,
     /// The place of its tag among those of the frame.
     pub place: u32,
     /// The tag.
-    pub tag: Bytes,
+    pub tag: &'a Bytes,
     /// The printed value.
     pub value: Bytes,
     /// The printed block.
@@ -38,7 +40,15 @@ pub struct Row {
     pub is_name: bool,
 }
 
-impl PartialEq for Row {
+impl<'a> Model for Row<'a> {
+    ghost use Rattle.obo_text.specs.inner.RowState.{RowState};
+
+    ghost Value = { RowState };
+
+    ghost view = { λ row. record { id = row.id.now; place = row.place; tag = row.tag.now; value = row.value; block = row.block; target = row.target; is_name = row.is_name } };
+}
+
+impl<'a> PartialEq for Row<'a> {
     ghost eq = { λ one other. pointwise (pointwise nat_eq)
         (one.id ∷ (one.place ∷ []) ∷ one.tag ∷ one.value ∷ one.block ∷ [])
         (other.id ∷ (other.place ∷ []) ∷ other.tag ∷ other.value ∷ other.block ∷ []) };
@@ -54,11 +64,11 @@ impl PartialEq for Row {
     }
 }
 
-impl Eq for Row {
+impl<'a> Eq for Row<'a> {
     ghost laws = { on_equiv (λ row. row.id ∷ (row.place ∷ []) ∷ row.tag ∷ row.value ∷ row.block ∷ []) (lists_equiv nat_list_eq_equiv) };
 }
 
-impl PartialOrd for Row {
+impl<'a> PartialOrd for Row<'a> {
     ghost partial_cmp = { as_partial_cmp (by_key texts_cmp (λ row. row.id ∷ (row.place ∷ []) ∷ row.tag ∷ row.value ∷ row.block ∷ [])) };
 
     ghost laws = { on_po (λ row. row.id ∷ (row.place ∷ []) ∷ row.tag ∷ row.value ∷ row.block ∷ []) texts_lists_po };
@@ -68,7 +78,7 @@ impl PartialOrd for Row {
     }
 }
 
-impl Ord for Row {
+impl<'a> Ord for Row<'a> {
     ghost cmp = { by_key texts_cmp (λ row. row.id ∷ (row.place ∷ []) ∷ row.tag ∷ row.value ∷ row.block ∷ []) };
 
     ghost total = { on_total (λ row. row.id ∷ (row.place ∷ []) ∷ row.tag ∷ row.value ∷ row.block ∷ []) (lists_total nat_list_cmp_total) };
@@ -80,7 +90,7 @@ impl Ord for Row {
         (y.id ∷ (y.place ∷ []) ∷ y.tag ∷ y.value ∷ y.block ∷ []) };
 
     fn cmp(&self, other: &Row) -> Ordering {
-        match self.id.cmp(&other.id) {
+        match self.id.cmp(other.id) {
             Ordering::Equal => behind_id(self, other),
             apart => apart,
         }
@@ -92,7 +102,7 @@ fn behind_id(one: &Row, other: &Row) -> Ordering
     ensures { result ≡ by_key texts_cmp key_behind_id one.now other.now }
 {
     match one.place.cmp(&other.place) {
-        Ordering::Equal => match one.tag.cmp(&other.tag) {
+        Ordering::Equal => match one.tag.cmp(other.tag) {
             Ordering::Equal => behind_tag(one, other),
             apart => apart,
         },
@@ -111,8 +121,8 @@ fn behind_tag(one: &Row, other: &Row) -> Ordering
 }
 
 /// The rows in their order, each once, where equal parts to compare by stand in equal rows.
-pub fn sorted_rows(rows: Vec<Row>) -> Vec<Row>
-    ensures { AreTold row_key rows.items → result.items ≡ sorted_on texts_cmp row_key rows.items }
+pub fn sorted_rows<'a>(rows: Vec<Row<'a>>) -> Vec<Row<'a>>
+    ensures { AreTold row_key rows.entry.items → result.items ≡ sorted_on texts_cmp row_key rows.entry.items }
 {
     let mut rows = rows;
     rows.sort_unstable();
@@ -122,7 +132,11 @@ pub fn sorted_rows(rows: Vec<Row>) -> Vec<Row>
 }
 
 /// The rows of the frames of a kind, as they stand in the document.
-pub fn rows_in(alloc: Global, kind: FrameKind, placed: &[Placed]) -> Result<Vec<Row>, NoMemory>
+pub fn rows_in<'a>(
+    alloc: Global,
+    kind: FrameKind,
+    placed: &'a [Placed],
+) -> Result<Vec<Row<'a>>, NoMemory>
     ensures { IfOk result (λ rows. rows.items ≡ rows_in kind (map unlined placed.now)) }
 {
     let mut rows = Vec::new(alloc);
@@ -135,7 +149,7 @@ pub fn rows_in(alloc: Global, kind: FrameKind, placed: &[Placed]) -> Result<Vec<
 }
 
 /// A clause as a row, if its frame is of the kind.
-fn row_at(alloc: Global, kind: FrameKind, one: &Placed) -> Result<Option<Row>, NoMemory>
+fn row_at<'a>(alloc: Global, kind: FrameKind, one: &'a Placed) -> Result<Option<Row<'a>>, NoMemory>
     ensures { IfOk result (λ row. row ≡ row_at kind (unlined one.now)) }
 {
     if kind_place(one.frame) == kind_place(kind) {
@@ -146,7 +160,12 @@ fn row_at(alloc: Global, kind: FrameKind, one: &Placed) -> Result<Option<Row>, N
 }
 
 /// A clause as a row, with texts at their size.
-fn row_of(alloc: Global, kind: FrameKind, id: &Bytes, clause: &Clause) -> Result<Row, NoMemory>
+fn row_of<'a>(
+    alloc: Global,
+    kind: FrameKind,
+    id: &'a Bytes,
+    clause: &'a Clause,
+) -> Result<Row<'a>, NoMemory>
     ensures { IfOk result (λ row. row ≡ row_of kind id.now clause.now) }
 {
     let mut value = Vec::new(alloc);
@@ -156,12 +175,10 @@ fn row_of(alloc: Global, kind: FrameKind, id: &Bytes, clause: &Clause) -> Result
     push_block(&mut block, clause.qualifiers.as_slice())?;
     block.shrink_to_fit();
     let target = last_id(alloc, &clause.value)?;
-    let tag = clause.tag.copy(alloc)?;
-    let id = id.copy(alloc)?;
     Ok(Row {
         id,
         place: clause_place(kind, clause),
-        tag,
+        tag: &clause.tag,
         value: Bytes::from_vec(value),
         block: Bytes::from_vec(block),
         target,
