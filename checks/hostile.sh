@@ -54,7 +54,21 @@ prefixes() {
 }
 # Ids that fall together in a table that hashes as the kit's do without a key: in each row both texts take the hash from
 # one state of 64 bits to the same next one, so that any choice of one from each row has the same hash.
-rows='PAIRS'
+rows='kyrxkj6khpngi vwga32ws5363n
+cft5iav6pppjj xvpmqss6nxvge
+rbeb63mccqh2h esqnhrlh3pnrb
+nrhgoay7mn4le log2mkkfduauj
+nbb6bo542govg 3pag6tbmkkofm
+6rodawlpjh3gf qgho332eamzrb
+x3yovbealt3qa 6jwgtbnodgusk
+hjzzsbdufygvd onppqmj7m4yva
+7crjsbp7eapyn 6nxn7zsz5wyan
+6jdu2bzzafduc vif4aejsikwpi
+ao4ywvqra6gdp qffioj62x2nzo
+2qrityg7eub6i 5huthzj2qcv2a
+xt5b52vf55ljm wcccestqyg3bb
+ld4ckpsaeutup 66j6ft3i63ipf
+z2bvxrjpys3lg yuwqsmbummjob'
 # colliding N  so many of these ids, and 2 to the number of rows at most.
 colliding() {
   awk -v n="$1" -v rows="$rows" 'BEGIN {
